@@ -1,0 +1,4 @@
+pub mod Words
+pub mod Rounds
+pub mod Message
+pub mod Value

@@ -9,17 +9,21 @@ use lib.Dec.{lit<}
 use lib.ListN.{length, getD, set, drop, replicate}
 use borrow.Author.Count.{below-none}
 use Rattle.std.specs.Iters.{counting}
-use Rattle.std.proofs.shelf.Lists.{append-assoc, length-append, length-replicate, getD-append-left, getD-append-right, getD-append-add, getD-replicate, getD-past, length-set, getD-set-same, getD-set-other, getD-drop, drop-append-le}
+use Rattle.std.proofs.shelf.Lists.{append-assoc, length-append, length-replicate, getD-append-left, getD-append-right, getD-append-add, getD-replicate, getD-past, length-set, getD-set-same, getD-set-other, getD-drop, drop-append-le, take-at}
 use Rattle.std.proofs.shelf.Bits.{shr-shr, mod-pow-add}
 use Rattle.std.proofs.shelf.Counted.{length-map-counting, getD-map-counting, fill-by-all}
 use Rattle.std.proofs.shelf.Edits.{fill-by-more}
 use Rattle.std.proofs.shelf.Tests.{cases-lt, cases-eq, cases-order}
 use Rattle.digest.specs.Words.{be4, word}
-use Rattle.digest.specs.Message.{be8, zeros, marked, padded, block}
+use Rattle.digest.specs.Message.{be8, zeros, marked, padded, Padding-right, block}
 
 pub length-padded : (m : List ℕ) → length (padded m) ≡ 64 * (length m / 64 + (length m % 64 + 72) / 64)
 unfolding padded
 length-padded m = simp (length-append, length-replicate) (omega arith)
+
+pub padding-right : (m : List ℕ) → Padding-right m
+unfolding padded
+padding-right m = record { begins = take-at m _ (length m) refl; whole = omega (arith, length-padded m); least = omega (arith, length-padded m) }
 
 -- the padded message is the marked one, zeros and the length
 parts : (m : List ℕ) → padded m ≡ (marked m ++ replicate (zeros (length m)) 0) ++ be8 (8 * length m)

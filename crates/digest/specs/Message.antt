@@ -1,7 +1,8 @@
 -- The padding of a message of bytes, its blocks of sixteen words, and the digest, which SHA-1 and SHA-256 share, as FIPS 180-4 defines them.
-use Prim.Native.Nat.{ℕ, _+_, _-_, _*_, _/_, _%_, _^_}
+use Prim.Native.Nat.{ℕ, _+_, _-_, _*_, _/_, _%_, _^_, _<_}
 use mathlib.Core.List.{List, [], _∷_, _++_, map}
-use lib.ListN.{length, replicate}
+use mathlib.Core.Path.{_≡_}
+use lib.ListN.{length, take, replicate}
 use Rattle.std.specs.Iters.{counting}
 use Rattle.std.specs.Joined.{joined}
 use Rattle.digest.specs.Words.{be4, word}
@@ -23,6 +24,13 @@ marked m = m ++ (128 ∷ [])
 -- and more; here such a message too has a digest, for which the low 64 bits of its length are taken.
 unfoldable pub padded : List ℕ → List ℕ
 padded m = m ++ (128 ∷ (replicate (zeros (length m)) 0 ++ be8 (8 * length m)))
+
+-- The padding is right: the padded message begins with the message, has whole blocks of 64 bytes, and not one block
+-- more than the message, the mark and the length need.
+pub record Padding-right (m : List ℕ) : Type 0 where
+  pub begins : take (length m) (padded m) ≡ m
+  pub whole : length (padded m) % 64 ≡ 0
+  pub least : length (padded m) < length m + 1 + 8 + 64
 
 -- the block i of a message: sixteen words
 unfoldable pub block : List ℕ → ℕ → List ℕ

@@ -6,7 +6,7 @@ ghost use lib.ListN.{length, drop};
 ghost use Rattle.std.specs.Joined.{joined};
 ghost use Rattle.digest.specs.Words.{be4};
 ghost use Rattle.digest.specs.Rounds.{turned};
-ghost use Rattle.digest.specs.Message.{padded, block, digest-of};
+ghost use Rattle.digest.specs.Message.{padded, Padding-right, block, digest-of};
 use super::blocks::end_block;
 use super::blocks::put_length;
 use super::blocks::whole_block;
@@ -36,13 +36,16 @@ pub trait Compression: Sized {
         ensures len { λ r. ⌜ length (now r) ≡ size ⌝ };
 }
 
+/// How many bytes of the last block come before the length.
+const BEFORE_LENGTH: usize = 56;
+
 /// Compresses the blocks of the padded value that the value does not fill: one, or two where the length finds no place
 /// in the block in which the value ends.
 fn compress_end<C: Compression>(state: &mut C, value: &[u8])
     ensures { λ _. ⌜ hash (now (state .exit)) ≡ turned (λ h i. compressed h (block (padded (now (value .entry))) (length (now (value .entry)) / 64 + i))) (hash (now (state .entry))) ((length (now (value .entry)) % 64 + 72) / 64) ⌝ }
 {
     let mut words = end_block(value);
-    if value.len() % 64 >= 56 {
+    if value.len() % 64 >= BEFORE_LENGTH {
         state.compress(&words);
         words = [0; 16];
     }
@@ -66,7 +69,8 @@ fn write_words(words: &[u32], out: &mut [u8; 32])
 
 /// Writes the digest of `value`, of any length, over the first bytes of `out`; the others stay.
 pub fn digest_into<C: Compression + Drop>(value: &[u8], out: &mut [u8; 32])
-    ensures { λ _. ⌜ now (out .exit) ≡ digest-of initial compressed (now (value .entry)) ++ drop (4 * size) (now (out .entry)) ⌝ }
+    ensures value { λ _. ⌜ now (out .exit) ≡ digest-of initial compressed (now (value .entry)) ++ drop (4 * size) (now (out .entry)) ⌝ }
+    ensures padding { λ _. ⌜ Padding-right (now (value .entry)) ⌝ }
 {
     let mut state = C::start();
     for i in 0..value.len() / 64 {

@@ -2,6 +2,7 @@
 ghost use mathlib.Core.Path.{_≡_};
 ghost use Rattle.sha1.specs.Constants.{initial as first};
 ghost use Rattle.sha1.specs.Sha1.{compressed as compressed-block, sha1};
+use super::constants::INITIAL;
 use super::rounds;
 use digest::chain;
 use digest::chain::Compression;
@@ -23,9 +24,7 @@ pub impl Compression for Sha1 as Sha1Compression {
     ghost compressed = { compressed-block };
 
     fn start() -> Sha1 {
-        Sha1 {
-            words: [0x67452301, 0xefcdab89, 0x98badcfe, 0x10325476, 0xc3d2e1f0],
-        }
+        Sha1 { words: INITIAL }
     }
 
     fn compress(&mut self, words: &[u32; 16]) {

@@ -4,6 +4,7 @@ ghost use Rattle.sha1.specs.Sha1.{sha1 as digested, Digest-of-abc};
 use digest::kind::DigestKind;
 use kind::Sha1Kind;
 
+mod constants;
 pub mod kind;
 mod rounds;
 

@@ -5,11 +5,9 @@ ghost use lib.ListN.{getD};
 ghost use Rattle.digest.specs.Words.{sums};
 ghost use Rattle.digest.specs.Rounds.{turned, step};
 ghost use Rattle.sha1.specs.Sha1.{f as function, mixed, round as rounded, compressed};
+use super::constants::K;
 use digest::words::choose;
 use digest::words::majority;
-
-/// The constants of the rounds: each is that of twenty rounds.
-const K: [u32; 4] = [0x5a827999, 0x6ed9eba1, 0x8f1bbcdc, 0xca62c1d6];
 
 /// The function of the round `t`.
 fn combine(t: usize, x: u32, y: u32, z: u32) -> u32

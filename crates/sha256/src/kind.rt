@@ -2,6 +2,7 @@
 ghost use mathlib.Core.Path.{_≡_};
 ghost use Rattle.sha256.specs.Constants.{initial as first};
 ghost use Rattle.sha256.specs.Sha256.{compressed as compressed-block, sha256};
+use super::constants::INITIAL;
 use super::rounds;
 use digest::chain;
 use digest::chain::Compression;
@@ -23,18 +24,7 @@ pub impl Compression for Sha256 as Sha256Compression {
     ghost compressed = { compressed-block };
 
     fn start() -> Sha256 {
-        Sha256 {
-            words: [
-                0x6a09e667,
-                0xbb67ae85,
-                0x3c6ef372,
-                0xa54ff53a,
-                0x510e527f,
-                0x9b05688c,
-                0x1f83d9ab,
-                0x5be0cd19,
-            ],
-        }
+        Sha256 { words: INITIAL }
     }
 
     fn compress(&mut self, words: &[u32; 16]) {

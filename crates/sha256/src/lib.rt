@@ -4,6 +4,7 @@ ghost use Rattle.sha256.specs.Sha256.{sha256 as digested, Digest-of-abc};
 use digest::kind::DigestKind;
 use kind::Sha256Kind;
 
+mod constants;
 pub mod kind;
 mod rounds;
 

@@ -7,6 +7,7 @@ use lib.ListN.{drop}
 use Rattle.std.specs.Joined.{joined}
 use Rattle.digest.specs.Words.{be4}
 use Rattle.digest.specs.Message.{digest-of}
+use Rattle.digest.proofs.Padding.{padding-right}
 use Rattle.digest.proofs.Chaining.{chained-none, chained-more, chained-all}
 use Rattle.digest.proofs.chain.digest_into.Needs as need
 
@@ -22,5 +23,6 @@ returns g c =
     let k = g .C·Compression in
     let all = chained-all (k .initial) (k .compressed) (c .args .value .now) (k .hash (c .loop-i .state)) (c .loop-i .i) (omega arith) (c .loop-i .inv) in
     let words = c .words .ensures .value ∙ c .compress-end .ensures ∙ all in
-    c .write-words .ensures ∙ ap (λ n. joined be4 (c .words .result .now) ++ drop (4 * n) (c .args .out .now)) (c .words .ensures .len)
-    ∙ ap (λ ws. joined be4 ws ++ drop (4 * k .size) (c .args .out .now)) words
+    let value = c .write-words .ensures ∙ ap (λ n. joined be4 (c .words .result .now) ++ drop (4 * n) (c .args .out .now)) (c .words .ensures .len)
+    ∙ ap (λ ws. joined be4 ws ++ drop (4 * k .size) (c .args .out .now)) words in
+    record { value = value; padding = padding-right (c .args .value .now) }

@@ -1,0 +1,4 @@
+mod Padding
+pub mod Keys
+pub mod Stamps
+pub mod Names

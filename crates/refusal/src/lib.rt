@@ -146,3 +146,10 @@ pub impl From<CloudFault> for Refusal as RefusalFromCloudFault {
         Refusal::CloudRefused(fault)
     }
 }
+
+/// What a refused making hands back: why nothing was made, and what had been given to make it of, as it was.
+#[derive(Drop)]
+pub struct Rejected<T> {
+    pub refusal: Refusal,
+    pub given: T,
+}

@@ -1,0 +1,4 @@
+pub mod Find
+pub mod Pairs
+pub mod Next
+pub mod Walk

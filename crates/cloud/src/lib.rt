@@ -1,0 +1,4 @@
+//! Clouds: what they mean, and the calls at one.
+
+pub mod interface;
+pub mod laws;

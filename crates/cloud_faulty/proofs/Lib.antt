@@ -1,0 +1,3 @@
+pub mod Codes
+pub mod Uses
+pub mod Laws

@@ -1,0 +1,4 @@
+pub mod ReadBack
+pub mod Replay
+pub mod Overwriting
+pub mod Outcomes

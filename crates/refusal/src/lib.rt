@@ -4,7 +4,7 @@ ghost use Rattle.refusal.specs.Numbers.{cause-number, refusal-fault, refusal-n
 ghost use Rattle.refusal.specs.declared.Refusal.the-variants.{CloudRefused};
 
 /// Why a cloud did not do what it was asked.
-#[derive(Clone, Copy)]
+#[derive(Clone, Copy, Debug)]
 pub enum Cause {
     /// A new name, and no place is free.
     Full,
@@ -34,14 +34,14 @@ impl Cause {
 }
 
 /// Which cloud of a row refused, counted from 0, and why.
-#[derive(Clone, Copy)]
+#[derive(Clone, Copy, Debug)]
 pub struct CloudFault {
     pub cloud: usize,
     pub cause: Cause,
 }
 
 /// The grounds of refusal, in the order in which they are checked.
-#[derive(Clone, Copy)]
+#[derive(Clone, Copy, Debug)]
 pub enum Refusal {
     // Opening.
     /// Faults to tolerate not 1 to 3, clouds not 3 to 7, or fewer than twice the faults and one.

@@ -1,18 +1,20 @@
 //! The row of three clouds.
 use cloud_faulty::faulty::FaultyCloud;
-use cloud_fixed::fixed::FixedCloud;
-use row::pair::Pair;
-use row::single::Single;
-use std::alloc::AllocError;
 use cloud_faulty::faulty::calls::FaultyAsCloud as _;
+use cloud_fixed::fixed::FixedCloud;
 use cloud_fixed::fixed::calls::FixedAsCloud as _;
+use row::pair::Pair;
 use row::pair::PairRow;
+use row::single::Single;
 use row::single::SingleRow;
+use std::alloc::AllocError;
 
 const PLACES: usize = 8;
 
 type Plain = Single<FixedCloud>;
+
 type Failing = Single<FaultyCloud<FixedCloud>>;
+
 pub(super) type Three = Pair<Plain, Pair<Plain, Failing>>;
 
 fn fixed(rt: &LibcRuntime) -> Result<Option<FixedCloud>, AllocError> {

@@ -5,15 +5,17 @@ use naming::key::Key;
 use naming::name::Name;
 use naming::stamp::Stamp;
 use row::interface::Row;
+use row::pair::PairRow;
 use sha256::kind::Sha256Kind;
 use std::error::AnyError;
-use row::pair::PairRow;
 
 mod clouds;
 mod steps;
 
 const CONTAINER: u8 = 7;
+
 const KEY: &[u8; 10] = b"drill/left";
+
 const OFFSET: &[u8; 3] = b"+20";
 
 fn name(rt: &LibcRuntime) -> Result<Name, AnyError> {
@@ -48,7 +50,10 @@ fn walk<R: Row>(rt: &LibcRuntime, row: &mut R) -> Result<(), AnyError> {
 }
 
 fn run(rt: &LibcRuntime) -> Result<(), AnyError> {
-    println!(rt, "Three clouds; cloud 2 does one call and then falls silent.")?;
+    println!(
+        rt,
+        "Three clouds; cloud 2 does one call and then falls silent."
+    )?;
     let Some(mut row) = clouds::three(rt)? else {
         return Err("the clouds were refused".into());
     };

@@ -38,14 +38,25 @@ fn put_at<R: Row>(row: &mut R, cloud: usize, name: &Name, value: &[u8]) -> Resul
     Ok(())
 }
 
-fn get_at<R: Row>(row: &mut R, cloud: usize, name: &Name, part: &mut [u8]) -> Result<usize, Refusal> {
+fn get_at<R: Row>(
+    row: &mut R,
+    cloud: usize,
+    name: &Name,
+    part: &mut [u8],
+) -> Result<usize, Refusal> {
     let answer = row.get(cloud, name.as_bytes(), part);
     let length = at_cloud(cloud, answer)?;
     Ok(length)
 }
 
 /// Keeps the value at a cloud.
-pub(super) fn put<R: Row>(rt: &LibcRuntime, row: &mut R, cloud: usize, name: &Name, value: &[u8]) -> Result<(), AnyError> {
+pub(super) fn put<R: Row>(
+    rt: &LibcRuntime,
+    row: &mut R,
+    cloud: usize,
+    name: &Name,
+    value: &[u8],
+) -> Result<(), AnyError> {
     print!(rt, "  cloud {cloud}: ")?;
     match put_at(row, cloud, name, value) {
         Ok(()) => println!(rt, "acknowledged.")?,
@@ -55,11 +66,20 @@ pub(super) fn put<R: Row>(rt: &LibcRuntime, row: &mut R, cloud: usize, name: &Na
 }
 
 /// Reads the value back from a cloud, and checks its digest.
-pub(super) fn get<R: Row>(rt: &LibcRuntime, row: &mut R, cloud: usize, name: &Name, digest: &Digest) -> Result<(), AnyError> {
+pub(super) fn get<R: Row>(
+    rt: &LibcRuntime,
+    row: &mut R,
+    cloud: usize,
+    name: &Name,
+    digest: &Digest,
+) -> Result<(), AnyError> {
     print!(rt, "  cloud {cloud}: ")?;
     let mut part = [0; 3];
     match get_at(row, cloud, name, &mut part) {
-        Ok(_) if digest.matches::<Sha256Kind>(&part) => println!(rt, "the 3 bytes with this digest: the offset is right.")?,
+        Ok(_) if digest.matches::<Sha256Kind>(&part) => println!(
+            rt,
+            "the 3 bytes with this digest: the offset is right."
+        )?,
         Ok(_) => println!(rt, "other bytes: they are not used.")?,
         Err(refusal) => print_refusal(rt, &refusal)?,
     }

@@ -3,20 +3,20 @@ use Rattle.std.proofs.Common.{◌≡◌, ℕ, zero, suc, ◌<◌, Bool, true, fa
 use Rattle.std.specs.Str.{bytes_eq}
 use Rattle.std.specs.Option.{option_map}
 use Rattle.std.proofs.lemmas.Bool.{cases_Bool, both_ways}
-use Rattle.bytes.specs.Order.{below, at_most}
-use Rattle.bytes.specs.Least.{Least, Least-at, None-passes}
-use Rattle.bytes.proofs.Order.{below-irreflexive, below-transitive, below-trichotomy, below-at-most, below-or-at-most, at-most-antisymmetric, at-most-reflexive, at-most-then-below, below-then-at-most}
-use Rattle.bytemap.specs.Map.{Map, find, next-key, All-above, Ascending, gathered}
-use Rattle.bytemap.proofs.Find.{before-first, find-empty, none_or_some, same_self, same-is, apart, find-cons, find-gathered, not-above, below-asymmetric, ascending-gathered}
+use Rattle.byte_strings.specs.Order.{below, at_most}
+use Rattle.byte_strings.specs.Least.{Least, LeastAt, NonePasses}
+use Rattle.byte_strings.proofs.Order.{below_irreflexive, below_transitive, below_trichotomy, below_at_most, below_or_at_most, at_most_antisymmetric, at_most_reflexive, at_most_then_below, below_then_at_most}
+use Rattle.bytemap.specs.Map.{Map, find, next_key, AllAbove, Ascending, gathered}
+use Rattle.bytemap.proofs.Find.{before_first, find_empty, none_or_some, same_self, same_is, apart, find_cons, find_gathered, not_above, below_asymmetric, ascending_gathered}
 
 module _ {V : Type 0} where
   -- no key above
-  pub next-none : (m : Map V) (a : List ℕ) → ((k : List ℕ) → below a k ≡ true → find m k ≡ None) → next-key m a ≡ None
-  unfolding find next-key
-  next-none [] a h = refl
-  next-none (p ∷ m) a h =
+  pub next_none : (m : Map V) (a : List ℕ) → ((k : List ℕ) → below a k ≡ true → find m k ≡ None) → next_key m a ≡ None
+  unfolding find next_key
+  next_none [] a h = refl
+  next_none (p ∷ m) a h =
       let f : below a p.0 ≡ false = ⊎_elim (λ t. absurd (let e : Some p.1 ≡ None = rw (same_self p.0) at (h p.0 t) in grind arith)) (λ f. f) (cases_Bool (below a p.0)) in
-      rw f (next-none m a (λ k t. ⊎_elim (λ (s : bytes_eq p.0 k ≡ true). absurd (both_ways _ f (subst (λ x. below a x ≡ true) (sym (same-is p.0 k s)) t))) (λ (s : bytes_eq p.0 k ≡ false). rw s at (h k t)) (cases_Bool (bytes_eq p.0 k))))
+      rw f (next_none m a (λ k t. ⊎_elim (λ (s : bytes_eq p.0 k ≡ true). absurd (both_ways _ f (subst (λ x. below a x ≡ true) (sym (same_is p.0 k s)) t))) (λ (s : bytes_eq p.0 k ≡ false). rw s at (h k t)) (cases_Bool (bytes_eq p.0 k))))
 
   -- a key above a that p's is not
   beside : (p : List ℕ × V) (m : Map V) (a k : List ℕ) → below a p.0 ≡ false → below a k ≡ true → find (p ∷ m) k ≡ find m k
@@ -26,97 +26,97 @@ module _ {V : Type 0} where
       rw f
 
   -- a key that is found is at least the first
-  first-at-most : (p : List ℕ × V) (m : Map V) (n : List ℕ) (v : V) → All-above p.0 m → find (p ∷ m) n ≡ Some v → at_most p.0 n ≡ true
-  first-at-most p m n v above e =
-      ⊎_elim (λ u. absurd (let c : Some v ≡ None = sym e ∙ before-first p m n above u in grind arith)) (λ u. u) (below-or-at-most n p.0)
+  first_at_most : (p : List ℕ × V) (m : Map V) (n : List ℕ) (v : V) → AllAbove p.0 m → find (p ∷ m) n ≡ Some v → at_most p.0 n ≡ true
+  first_at_most p m n v above e =
+      ⊎_elim (λ u. absurd (let c : Some v ≡ None = sym e ∙ before_first p m n above u in grind arith)) (λ u. u) (below_or_at_most n p.0)
 
   -- the key that is found above, and at most each that is
-  pub next-some : (m : Map V) (a n : List ℕ) (v : V) → Ascending m → below a n ≡ true → find m n ≡ Some v → ((k : List ℕ) (w : V) → below a k ≡ true → find m k ≡ Some w → at_most n k ≡ true) → next-key m a ≡ Some n
-  unfolding next-key
-  next-some [] a n v asc t e least = absurd (let c : None ≡ Some v = sym (find-empty n) ∙ e in grind arith)
-  next-some (p ∷ m) a n v asc t e least =
+  pub next_some : (m : Map V) (a n : List ℕ) (v : V) → Ascending m → below a n ≡ true → find m n ≡ Some v → ((k : List ℕ) (w : V) → below a k ≡ true → find m k ≡ Some w → at_most n k ≡ true) → next_key m a ≡ Some n
+  unfolding next_key
+  next_some [] a n v asc t e least = absurd (let c : None ≡ Some v = sym (find_empty n) ∙ e in grind arith)
+  next_some (p ∷ m) a n v asc t e least =
       ⊎_elim
       (λ (s : below a p.0 ≡ true).
-      let le = least p.0 p.1 s (find-cons p m p.0 ∙ rw (same_self p.0)) in
-      rw s (ap Some (at-most-antisymmetric p.0 n (first-at-most p m n v asc.0 e) le)))
+      let le = least p.0 p.1 s (find_cons p m p.0 ∙ rw (same_self p.0)) in
+      rw s (ap Some (at_most_antisymmetric p.0 n (first_at_most p m n v asc.0 e) le)))
       (λ (s : below a p.0 ≡ false).
-      rw s (next-some m a n v asc.1 t (sym (beside p m a n s t) ∙ e) (λ k w u f. least k w u (beside p m a k s u ∙ f))))
+      rw s (next_some m a n v asc.1 t (sym (beside p m a n s t) ∙ e) (λ k w u f. least k w u (beside p m a k s u ∙ f))))
       (cases_Bool (below a p.0))
 
   -- ---- and back
 
-  pub next-is-above : (m : Map V) (a n : List ℕ) → next-key m a ≡ Some n → below a n ≡ true
-  unfolding next-key
-  next-is-above [] a n e = absurd (grind arith)
-  next-is-above (p ∷ m) a n e =
+  pub next_is_above : (m : Map V) (a n : List ℕ) → next_key m a ≡ Some n → below a n ≡ true
+  unfolding next_key
+  next_is_above [] a n e = absurd (grind arith)
+  next_is_above (p ∷ m) a n e =
       ⊎_elim (λ (s : below a p.0 ≡ true). let q : p.0 ≡ n = (let r : Some p.0 ≡ Some n = rw s at e in cc) in subst (λ x. below a x ≡ true) q s)
-      (λ (s : below a p.0 ≡ false). next-is-above m a n (rw s at e)) (cases_Bool (below a p.0))
+      (λ (s : below a p.0 ≡ false). next_is_above m a n (rw s at e)) (cases_Bool (below a p.0))
 
-  pub next-is-found : (m : Map V) (a n : List ℕ) → next-key m a ≡ Some n → (v : V) × (find m n ≡ Some v)
-  unfolding next-key
-  next-is-found [] a n e = absurd (grind arith)
-  next-is-found (p ∷ m) a n e =
+  pub next_is_found : (m : Map V) (a n : List ℕ) → next_key m a ≡ Some n → (v : V) × (find m n ≡ Some v)
+  unfolding next_key
+  next_is_found [] a n e = absurd (grind arith)
+  next_is_found (p ∷ m) a n e =
       ⊎_elim
       (λ (s : below a p.0 ≡ true).
       let q : p.0 ≡ n = (let r : Some p.0 ≡ Some n = rw s at e in cc) in
-      (p.1, find-cons p m n ∙ subst (λ x. cond (bytes_eq p.0 x) (Some p.1) (find m x) ≡ Some p.1) q (rw (same_self p.0))))
+      (p.1, find_cons p m n ∙ subst (λ x. cond (bytes_eq p.0 x) (Some p.1) (find m x) ≡ Some p.1) q (rw (same_self p.0))))
       (λ (s : below a p.0 ≡ false).
-      let r : next-key m a ≡ Some n = rw s at e in
-      let f = next-is-found m a n r in
-      (f.0, beside p m a n s (next-is-above m a n r) ∙ f.1))
+      let r : next_key m a ≡ Some n = rw s at e in
+      let f = next_is_found m a n r in
+      (f.0, beside p m a n s (next_is_above m a n r) ∙ f.1))
       (cases_Bool (below a p.0))
 
-  pub next-is-least : (m : Map V) (a n k : List ℕ) (w : V) → Ascending m → next-key m a ≡ Some n → below a k ≡ true → find m k ≡ Some w → at_most n k ≡ true
-  unfolding next-key
-  next-is-least [] a n k w asc e t f = absurd (grind arith)
-  next-is-least (p ∷ m) a n k w asc e t f =
+  pub next_is_least : (m : Map V) (a n k : List ℕ) (w : V) → Ascending m → next_key m a ≡ Some n → below a k ≡ true → find m k ≡ Some w → at_most n k ≡ true
+  unfolding next_key
+  next_is_least [] a n k w asc e t f = absurd (grind arith)
+  next_is_least (p ∷ m) a n k w asc e t f =
       ⊎_elim
       (λ (s : below a p.0 ≡ true).
       let q : p.0 ≡ n = (let r : Some p.0 ≡ Some n = rw s at e in cc) in
-      subst (λ x. at_most x k ≡ true) q (first-at-most p m k w asc.0 f))
-      (λ (s : below a p.0 ≡ false). next-is-least m a n k w asc.1 (rw s at e) t (sym (beside p m a k s t) ∙ f))
+      subst (λ x. at_most x k ≡ true) q (first_at_most p m k w asc.0 f))
+      (λ (s : below a p.0 ≡ false). next_is_least m a n k w asc.1 (rw s at e) t (sym (beside p m a k s t) ∙ f))
       (cases_Bool (below a p.0))
 
-  pub none-is-above : (m : Map V) (a k : List ℕ) → next-key m a ≡ None → below a k ≡ true → find m k ≡ None
-  unfolding next-key
-  none-is-above [] a k e t = find-empty k
-  none-is-above (p ∷ m) a k e t =
+  pub none_is_above : (m : Map V) (a k : List ℕ) → next_key m a ≡ None → below a k ≡ true → find m k ≡ None
+  unfolding next_key
+  none_is_above [] a k e t = find_empty k
+  none_is_above (p ∷ m) a k e t =
       ⊎_elim (λ (s : below a p.0 ≡ true). absurd (let r : Some p.0 ≡ None = rw s at e in grind arith))
-      (λ (s : below a p.0 ≡ false). beside p m a k s t ∙ none-is-above m a k (rw s at e) t) (cases_Bool (below a p.0))
+      (λ (s : below a p.0 ≡ false). beside p m a k s t ∙ none_is_above m a k (rw s at e) t) (cases_Bool (below a p.0))
 
 -- ---- a search through elements that hold pairs
 
 module _ {X V : Type 0} (f : X → List ℕ × V) where
   -- an element with a key that is found
   pub found_at : (xs : List X) (k : List ℕ) (v : V) → find (map f xs) k ≡ Some v → (i : ℕ) × (i < length xs) × ((d : X) → (f (get_or xs i d)).0 ≡ k)
-  found_at [] k v e = absurd (let c : None ≡ Some v = sym (find-empty k) ∙ e in grind arith)
+  found_at [] k v e = absurd (let c : None ≡ Some v = sym (find_empty k) ∙ e in grind arith)
   found_at (x ∷ xs) k v e =
-      ⊎_elim (λ (s : bytes_eq (f x).0 k ≡ true). (0, omega arith, λ d. same-is (f x).0 k s))
+      ⊎_elim (λ (s : bytes_eq (f x).0 k ≡ true). (0, omega arith, λ d. same_is (f x).0 k s))
       (λ (s : bytes_eq (f x).0 k ≡ false).
-      let r = found_at xs k v (rw s at (sym (find-cons (f x) (map f xs) k) ∙ e)) in
+      let r = found_at xs k v (rw s at (sym (find_cons (f x) (map f xs) k) ∙ e)) in
       (suc r.0, omega (arith, r.1), r.2))
       (cases_Bool (bytes_eq (f x).0 k))
 
   -- and the other way
   pub found_from : (xs : List X) (i : ℕ) (d : X) → i < length xs → (v : V) × (find (map f xs) (f (get_or xs i d)).0 ≡ Some v)
   found_from [] i d h = absurd (omega arith)
-  found_from (x ∷ xs) zero d h = ((f x).1, find-cons (f x) (map f xs) (f x).0 ∙ rw (same_self (f x).0))
+  found_from (x ∷ xs) zero d h = ((f x).1, find_cons (f x) (map f xs) (f x).0 ∙ rw (same_self (f x).0))
   found_from (x ∷ xs) (suc i) d h =
       let k = (f (get_or xs i d)).0 in
       let r = found_from xs i d (omega arith) in
-      ⊎_elim (λ (s : bytes_eq (f x).0 k ≡ true). ((f x).1, find-cons (f x) (map f xs) k ∙ rw s))
-      (λ (s : bytes_eq (f x).0 k ≡ false). (r.0, find-cons (f x) (map f xs) k ∙ rw s r.1))
+      ⊎_elim (λ (s : bytes_eq (f x).0 k ≡ true). ((f x).1, find_cons (f x) (map f xs) k ∙ rw s))
+      (λ (s : bytes_eq (f x).0 k ≡ false). (r.0, find_cons (f x) (map f xs) k ∙ rw s r.1))
       (cases_Bool (bytes_eq (f x).0 k))
 
-  pub next-from-least : (xs : List X) (a : List ℕ) (d : X) (r : Option ℕ) → Least (λ x. below a (f x).0) (λ x y. at_most (f x).0 (f y).0) xs (length xs) r
-      → next-key (gathered (map f xs)) a ≡ option_map (λ i. (f (get_or xs i d)).0) r
-  next-from-least xs a d None h =
-      next-none (gathered (map f xs)) a
+  pub next_from_least : (xs : List X) (a : List ℕ) (d : X) (r : Option ℕ) → Least (λ x. below a (f x).0) (λ x y. at_most (f x).0 (f y).0) xs (length xs) r
+      → next_key (gathered (map f xs)) a ≡ option_map (λ i. (f (get_or xs i d)).0) r
+  next_from_least xs a d None h =
+      next_none (gathered (map f xs)) a
       (λ k t. ⊎_elim (λ e. e) (λ s.
-      let r = found_at xs k s.0 (sym (find-gathered (map f xs) k) ∙ s.1) in
+      let r = found_at xs k s.0 (sym (find_gathered (map f xs) k) ∙ s.1) in
       absurd (both_ways _ (h r.0 r.1 d) (subst (λ x. below a x ≡ true) (sym (r.2 d)) t))) (none_or_some (find (gathered (map f xs)) k)))
-  next-from-least xs a d (Some i) h =
+  next_from_least xs a d (Some i) h =
       let g = found_from xs i d h.within in
-      next-some (gathered (map f xs)) a (f (get_or xs i d)).0 g.0 (ascending-gathered (map f xs)) (h.passing d) (find-gathered (map f xs) (f (get_or xs i d)).0 ∙ g.1)
-      (λ k w t e. let r = found_at xs k w (sym (find-gathered (map f xs) k) ∙ e) in
+      next_some (gathered (map f xs)) a (f (get_or xs i d)).0 g.0 (ascending_gathered (map f xs)) (h.passing d) (find_gathered (map f xs) (f (get_or xs i d)).0 ∙ g.1)
+      (λ k w t e. let r = found_at xs k w (sym (find_gathered (map f xs) k) ∙ e) in
       subst (λ x. at_most (f (get_or xs i d)).0 x ≡ true) (r.2 d) (h.least r.0 r.1 d (subst (λ x. below a x ≡ true) (sym (r.2 d)) t)))

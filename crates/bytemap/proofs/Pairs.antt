@@ -3,136 +3,136 @@ use Rattle.std.proofs.Common.{◌≡◌, ℕ, zero, suc, ◌+◌, ◌<◌, Bool,
 use Rattle.std.specs.Str.{bytes_eq}
 use Rattle.std.proofs.lemmas.Bool.{cases_Bool, both_ways, and_parts, and_from}
 use Rattle.std.proofs.lemmas.Bool.Decides.{nat_tests}
-use Rattle.bytes.specs.Order.{below}
-use Rattle.bytemap.specs.Map.{Map, find, insert, remove, Ascending, gathered, Distinct, all-different}
-use Rattle.bytemap.proofs.Find.{same_self, same-is, apart, same-sym, same_at, same-through, find-empty, find-cons, before-first, find-insert, find-remove, find-gathered, ascending-insert, ascending-remove, ascending-gathered, same_map}
+use Rattle.byte_strings.specs.Order.{below}
+use Rattle.bytemap.specs.Map.{Map, find, insert, remove, Ascending, gathered, Distinct, all_different}
+use Rattle.bytemap.proofs.Find.{same_self, same_is, apart, same_sym, same_at, same_through, find_empty, find_cons, before_first, find_insert, find_remove, find_gathered, ascending_insert, ascending_remove, ascending_gathered, same_map}
 
 module _ {V : Type 0} where
   -- a key that is found beside an absent one is another
-  pub absent-apart : (p : List ℕ × V) (ps : List (List ℕ × V)) (k : List ℕ) → find (p ∷ ps) k ≡ None → (bytes_eq p.0 k ≡ false) × (find ps k ≡ None)
+  pub absent_apart : (p : List ℕ × V) (ps : List (List ℕ × V)) (k : List ℕ) → find (p ∷ ps) k ≡ None → (bytes_eq p.0 k ≡ false) × (find ps k ≡ None)
   unfolding find
-  absent-apart p ps k fresh =
+  absent_apart p ps k fresh =
       ⊎_elim (λ t. absurd (let h : Some p.1 ≡ None = rw t at fresh in grind arith)) (λ f. (f, rw f at fresh)) (cases_Bool (bytes_eq p.0 k))
 
   -- one pair more at the end
-  pub find-push : (ps : List (List ℕ × V)) (k : List ℕ) (v : V) (j : List ℕ) → find ps k ≡ None → find (ps ++ ((k, v) ∷ [])) j ≡ cond (bytes_eq k j) (Some v) (find ps j)
+  pub find_push : (ps : List (List ℕ × V)) (k : List ℕ) (v : V) (j : List ℕ) → find ps k ≡ None → find (ps ++ ((k, v) ∷ [])) j ≡ cond (bytes_eq k j) (Some v) (find ps j)
   unfolding find
-  find-push [] k v j fresh = refl
-  find-push (p ∷ ps) k v j fresh =
-      let a = absent-apart p ps k fresh in
+  find_push [] k v j fresh = refl
+  find_push (p ∷ ps) k v j fresh =
+      let a = absent_apart p ps k fresh in
       let f = a.0 in
-      let e = find-push ps k v j a.1 in
-      let t = same-through p.0 k j in
+      let e = find_push ps k v j a.1 in
+      let t = same_through p.0 k j in
       grind (arith, nat_tests)
 
   pub distinct_push : (ps : List (List ℕ × V)) (k : List ℕ) (v : V) → Distinct ps → find ps k ≡ None → Distinct (ps ++ ((k, v) ∷ []))
   unfolding find
   distinct_push [] k v d fresh = (refl, tt)
   distinct_push (p ∷ ps) k v d fresh =
-      let a = absent-apart p ps k fresh in
-      let e = find-push ps k v p.0 a.1 in
-      let s : bytes_eq k p.0 ≡ false = same-sym k p.0 ∙ a.0 in
+      let a = absent_apart p ps k fresh in
+      let e = find_push ps k v p.0 a.1 in
+      let s : bytes_eq k p.0 ≡ false = same_sym k p.0 ∙ a.0 in
       (e ∙ rw s d.0, distinct_push ps k v d.1 a.1)
 
   -- an absent key is not that at an index
-  absent-at : (ps : List (List ℕ × V)) (k : List ℕ) (i : ℕ) (o : List ℕ × V) → i < length ps → find ps k ≡ None → bytes_eq k (get_or ps i o).0 ≡ false
-  absent-at [] k i o h fresh = absurd (omega arith)
-  absent-at (p ∷ ps) k zero o h fresh = same-sym k p.0 ∙ (absent-apart p ps k fresh).0
-  absent-at (p ∷ ps) k (suc i) o h fresh = absent-at ps k i o (omega arith) (absent-apart p ps k fresh).1
+  absent_at : (ps : List (List ℕ × V)) (k : List ℕ) (i : ℕ) (o : List ℕ × V) → i < length ps → find ps k ≡ None → bytes_eq k (get_or ps i o).0 ≡ false
+  absent_at [] k i o h fresh = absurd (omega arith)
+  absent_at (p ∷ ps) k zero o h fresh = same_sym k p.0 ∙ (absent_apart p ps k fresh).0
+  absent_at (p ∷ ps) k (suc i) o h fresh = absent_at ps k i o (omega arith) (absent_apart p ps k fresh).1
 
   pub find_at : (ps : List (List ℕ × V)) (i : ℕ) (o : List ℕ × V) → i < length ps → Distinct ps → find ps (get_or ps i o).0 ≡ Some (get_or ps i o).1
   unfolding find
   find_at [] i o h d = absurd (omega arith)
   find_at (p ∷ ps) zero o h d = rw (same_self p.0)
-  find_at (p ∷ ps) (suc i) o h d = let f = absent-at ps p.0 i o (omega arith) d.0 in rw f (find_at ps i o (omega arith) d.1)
+  find_at (p ∷ ps) (suc i) o h d = let f = absent_at ps p.0 i o (omega arith) d.0 in rw f (find_at ps i o (omega arith) d.1)
 
   -- another value for the key at an index
-  pub find-set : (ps : List (List ℕ × V)) (i : ℕ) (o : List ℕ × V) (v : V) (j : List ℕ) → i < length ps → Distinct ps → find (set ps i ((get_or ps i o).0, v)) j ≡ cond (bytes_eq (get_or ps i o).0 j) (Some v) (find ps j)
+  pub find_set : (ps : List (List ℕ × V)) (i : ℕ) (o : List ℕ × V) (v : V) (j : List ℕ) → i < length ps → Distinct ps → find (set ps i ((get_or ps i o).0, v)) j ≡ cond (bytes_eq (get_or ps i o).0 j) (Some v) (find ps j)
   unfolding find
-  find-set [] i o v j h d = absurd (omega arith)
-  find-set (p ∷ ps) zero o v j h d = grind (arith, nat_tests)
-  find-set (p ∷ ps) (suc i) o v j h d =
-      let f = absent-at ps p.0 i o (omega arith) d.0 in
-      let e = find-set ps i o v j (omega arith) d.1 in
-      let t = same-through p.0 (get_or ps i o).0 j in
+  find_set [] i o v j h d = absurd (omega arith)
+  find_set (p ∷ ps) zero o v j h d = grind (arith, nat_tests)
+  find_set (p ∷ ps) (suc i) o v j h d =
+      let f = absent_at ps p.0 i o (omega arith) d.0 in
+      let e = find_set ps i o v j (omega arith) d.1 in
+      let t = same_through p.0 (get_or ps i o).0 j in
       grind (arith, nat_tests)
 
-  pub distinct-set : (ps : List (List ℕ × V)) (i : ℕ) (o : List ℕ × V) (v : V) → i < length ps → Distinct ps → Distinct (set ps i ((get_or ps i o).0, v))
+  pub distinct_set : (ps : List (List ℕ × V)) (i : ℕ) (o : List ℕ × V) (v : V) → i < length ps → Distinct ps → Distinct (set ps i ((get_or ps i o).0, v))
   unfolding find
-  distinct-set [] i o v h d = absurd (omega arith)
-  distinct-set (p ∷ ps) zero o v h d = d
-  distinct-set (p ∷ ps) (suc i) o v h d =
-      let f : bytes_eq (get_or ps i o).0 p.0 ≡ false = same-sym (get_or ps i o).0 p.0 ∙ absent-at ps p.0 i o (omega arith) d.0 in
-      (find-set ps i o v p.0 (omega arith) d.1 ∙ rw f d.0, distinct-set ps i o v (omega arith) d.1)
+  distinct_set [] i o v h d = absurd (omega arith)
+  distinct_set (p ∷ ps) zero o v h d = d
+  distinct_set (p ∷ ps) (suc i) o v h d =
+      let f : bytes_eq (get_or ps i o).0 p.0 ≡ false = same_sym (get_or ps i o).0 p.0 ∙ absent_at ps p.0 i o (omega arith) d.0 in
+      (find_set ps i o v p.0 (omega arith) d.1 ∙ rw f d.0, distinct_set ps i o v (omega arith) d.1)
 
   -- without the pair at an index
-  pub find-removed : (ps : List (List ℕ × V)) (i : ℕ) (o : List ℕ × V) (j : List ℕ) → i < length ps → Distinct ps → find (take i ps ++ drop (suc i) ps) j ≡ cond (bytes_eq (get_or ps i o).0 j) None (find ps j)
+  pub find_removed : (ps : List (List ℕ × V)) (i : ℕ) (o : List ℕ × V) (j : List ℕ) → i < length ps → Distinct ps → find (take i ps ++ drop (suc i) ps) j ≡ cond (bytes_eq (get_or ps i o).0 j) None (find ps j)
   unfolding find
-  find-removed [] i o j h d = absurd (omega arith)
-  find-removed (p ∷ ps) zero o j h d =
-      ⊎_elim (λ t. rw t (subst (λ k. find ps k ≡ None) (same-is p.0 j t) d.0)) (λ f. rw f) (cases_Bool (bytes_eq p.0 j))
-  find-removed (p ∷ ps) (suc i) o j h d =
-      let f = absent-at ps p.0 i o (omega arith) d.0 in
+  find_removed [] i o j h d = absurd (omega arith)
+  find_removed (p ∷ ps) zero o j h d =
+      ⊎_elim (λ t. rw t (subst (λ k. find ps k ≡ None) (same_is p.0 j t) d.0)) (λ f. rw f) (cases_Bool (bytes_eq p.0 j))
+  find_removed (p ∷ ps) (suc i) o j h d =
+      let f = absent_at ps p.0 i o (omega arith) d.0 in
       ⊎_elim
       (λ t.
-      let g : bytes_eq (get_or ps i o).0 j ≡ false = same-sym (get_or ps i o).0 j ∙ subst (λ k. bytes_eq k (get_or ps i o).0 ≡ false) (same-is p.0 j t) f in
+      let g : bytes_eq (get_or ps i o).0 j ≡ false = same_sym (get_or ps i o).0 j ∙ subst (λ k. bytes_eq k (get_or ps i o).0 ≡ false) (same_is p.0 j t) f in
       rw (t, g))
-      (λ g. rw g (find-removed ps i o j (omega arith) d.1))
+      (λ g. rw g (find_removed ps i o j (omega arith) d.1))
       (cases_Bool (bytes_eq p.0 j))
 
-  pub distinct-removed : (ps : List (List ℕ × V)) (i : ℕ) (o : List ℕ × V) → i < length ps → Distinct ps → Distinct (take i ps ++ drop (suc i) ps)
+  pub distinct_removed : (ps : List (List ℕ × V)) (i : ℕ) (o : List ℕ × V) → i < length ps → Distinct ps → Distinct (take i ps ++ drop (suc i) ps)
   unfolding find
-  distinct-removed [] i o h d = absurd (omega arith)
-  distinct-removed (p ∷ ps) zero o h d = d.1
-  distinct-removed (p ∷ ps) (suc i) o h d =
-      let f : bytes_eq (get_or ps i o).0 p.0 ≡ false = same-sym (get_or ps i o).0 p.0 ∙ absent-at ps p.0 i o (omega arith) d.0 in
-      (find-removed ps i o p.0 (omega arith) d.1 ∙ rw f d.0, distinct-removed ps i o (omega arith) d.1)
+  distinct_removed [] i o h d = absurd (omega arith)
+  distinct_removed (p ∷ ps) zero o h d = d.1
+  distinct_removed (p ∷ ps) (suc i) o h d =
+      let f : bytes_eq (get_or ps i o).0 p.0 ≡ false = same_sym (get_or ps i o).0 p.0 ∙ absent_at ps p.0 i o (omega arith) d.0 in
+      (find_removed ps i o p.0 (omega arith) d.1 ∙ rw f d.0, distinct_removed ps i o (omega arith) d.1)
 
   -- ---- the map that they make
 
-  pub gathered-insert : (ps qs : List (List ℕ × V)) (k : List ℕ) (v : V) → ((j : List ℕ) → find qs j ≡ cond (bytes_eq k j) (Some v) (find ps j)) → gathered qs ≡ insert (gathered ps) k v
-  gathered-insert ps qs k v h =
-      same_map (gathered qs) (insert (gathered ps) k v) (ascending-gathered qs) (ascending-insert (gathered ps) k v (ascending-gathered ps))
-      (λ j. find-gathered qs j ∙ h j ∙ sym (find-insert (gathered ps) k v j ∙ ap (cond (bytes_eq k j) (Some v)) (find-gathered ps j)))
+  pub gathered_insert : (ps qs : List (List ℕ × V)) (k : List ℕ) (v : V) → ((j : List ℕ) → find qs j ≡ cond (bytes_eq k j) (Some v) (find ps j)) → gathered qs ≡ insert (gathered ps) k v
+  gathered_insert ps qs k v h =
+      same_map (gathered qs) (insert (gathered ps) k v) (ascending_gathered qs) (ascending_insert (gathered ps) k v (ascending_gathered ps))
+      (λ j. find_gathered qs j ∙ h j ∙ sym (find_insert (gathered ps) k v j ∙ ap (cond (bytes_eq k j) (Some v)) (find_gathered ps j)))
 
-  pub gathered-remove : (ps qs : List (List ℕ × V)) (k : List ℕ) → ((j : List ℕ) → find qs j ≡ cond (bytes_eq k j) None (find ps j)) → gathered qs ≡ remove (gathered ps) k
-  gathered-remove ps qs k h =
-      same_map (gathered qs) (remove (gathered ps) k) (ascending-gathered qs) (ascending-remove (gathered ps) k (ascending-gathered ps))
-      (λ j. find-gathered qs j ∙ h j ∙ sym (find-remove (gathered ps) k j ∙ ap (cond (bytes_eq k j) None) (find-gathered ps j)))
+  pub gathered_remove : (ps qs : List (List ℕ × V)) (k : List ℕ) → ((j : List ℕ) → find qs j ≡ cond (bytes_eq k j) None (find ps j)) → gathered qs ≡ remove (gathered ps) k
+  gathered_remove ps qs k h =
+      same_map (gathered qs) (remove (gathered ps) k) (ascending_gathered qs) (ascending_remove (gathered ps) k (ascending_gathered ps))
+      (λ j. find_gathered qs j ∙ h j ∙ sym (find_remove (gathered ps) k j ∙ ap (cond (bytes_eq k j) None) (find_gathered ps j)))
 
   -- ---- how many there are
 
-  pub length-insert : (m : Map V) (k : List ℕ) (v : V) → find m k ≡ None → length (insert m k v) ≡ length m + 1
+  pub length_insert : (m : Map V) (k : List ℕ) (v : V) → find m k ≡ None → length (insert m k v) ≡ length m + 1
   unfolding insert
-  length-insert [] k v fresh = refl
-  length-insert (p ∷ m) k v fresh =
-      let a = absent-apart p m k fresh in
+  length_insert [] k v fresh = refl
+  length_insert (p ∷ m) k v fresh =
+      let a = absent_apart p m k fresh in
       let f = a.0 in
-      let e = length-insert m k v a.1 in
+      let e = length_insert m k v a.1 in
       ⊎_elim (λ (t : below k p.0 ≡ true). rw t (omega arith)) (λ (g : below k p.0 ≡ false). rw (g, f) (omega arith)) (cases_Bool (below k p.0))
 
   -- a key that is found takes no place more
-  pub length-insert-again : (m : Map V) (k : List ℕ) (v w : V) → Ascending m → find m k ≡ Some w → length (insert m k v) ≡ length m
+  pub length_insert_again : (m : Map V) (k : List ℕ) (v w : V) → Ascending m → find m k ≡ Some w → length (insert m k v) ≡ length m
   unfolding insert
-  length-insert-again [] k v w asc e = absurd (let c : None ≡ Some w = sym (find-empty k) ∙ e in grind arith)
-  length-insert-again (p ∷ m) k v w asc e =
+  length_insert_again [] k v w asc e = absurd (let c : None ≡ Some w = sym (find_empty k) ∙ e in grind arith)
+  length_insert_again (p ∷ m) k v w asc e =
       ⊎_elim
-      (λ (t : below k p.0 ≡ true). absurd (let c : None ≡ Some w = sym (before-first p m k asc.0 t) ∙ e in grind arith))
+      (λ (t : below k p.0 ≡ true). absurd (let c : None ≡ Some w = sym (before_first p m k asc.0 t) ∙ e in grind arith))
       (λ (f : below k p.0 ≡ false).
       rw f
       (⊎_elim (λ (s : bytes_eq p.0 k ≡ true). rw s)
       (λ (g : bytes_eq p.0 k ≡ false).
-      let r = length-insert-again m k v w asc.1 (rw g at (sym (find-cons p m k) ∙ e)) in
+      let r = length_insert_again m k v w asc.1 (rw g at (sym (find_cons p m k) ∙ e)) in
       rw g (omega arith))
       (cases_Bool (bytes_eq p.0 k))))
       (cases_Bool (below k p.0))
 
-  pub length-gathered : (ps : List (List ℕ × V)) → Distinct ps → length (gathered ps) ≡ length ps
+  pub length_gathered : (ps : List (List ℕ × V)) → Distinct ps → length (gathered ps) ≡ length ps
   unfolding gathered
-  length-gathered [] d = refl
-  length-gathered (p ∷ ps) d =
-      let e = length-gathered ps d.1 in
-      let f = length-insert (gathered ps) p.0 p.1 (find-gathered ps p.0 ∙ d.0) in
+  length_gathered [] d = refl
+  length_gathered (p ∷ ps) d =
+      let e = length_gathered ps d.1 in
+      let f = length_insert (gathered ps) p.0 p.1 (find_gathered ps p.0 ∙ d.0) in
       omega arith
 
   -- ---- the test for different keys decides
@@ -141,12 +141,12 @@ module _ {V : Type 0} where
   not_some None h = refl
   not_some (Some v) h = absurd (grind arith)
 
-  pub distinct_from : (ps : List (List ℕ × V)) → all-different ps ≡ true → Distinct ps
+  pub distinct_from : (ps : List (List ℕ × V)) → all_different ps ≡ true → Distinct ps
   distinct_from [] h = tt
   distinct_from (p ∷ ps) h =
-      let b = and_parts (not (is_some (find ps p.0))) (all-different ps) h in
+      let b = and_parts (not (is_some (find ps p.0))) (all_different ps) h in
       (not_some (find ps p.0) b.0, distinct_from ps b.1)
 
-  pub different-from : (ps : List (List ℕ × V)) → Distinct ps → all-different ps ≡ true
-  different-from [] d = refl
-  different-from (p ∷ ps) d = and_from (not (is_some (find ps p.0))) (all-different ps) (rw d.0) (different-from ps d.1)
+  pub different_from : (ps : List (List ℕ × V)) → Distinct ps → all_different ps ≡ true
+  different_from [] d = refl
+  different_from (p ∷ ps) d = and_from (not (is_some (find ps p.0))) (all_different ps) (rw d.0) (different_from ps d.1)

@@ -1,7 +1,7 @@
 -- Maps from byte strings: a list of keys with their values, the keys ascending, so that equal maps are equal lists.
 use Rattle.std.specs.Prelude.{◌≡◌, ℕ, Bool, true, cond, not, ◌&&◌, List, [], ◌∷◌, map, is_some, Some, None, Option}
 use Rattle.std.specs.Str.{bytes_eq}
-use Rattle.bytes.specs.Order.{below}
+use Rattle.byte_strings.specs.Order.{below}
 
 abbrev pub Map : Type 0 → Type 0
 Map V = List (List ℕ × V)
@@ -22,9 +22,9 @@ remove [] k = []
 remove (p ∷ m) k = cond (bytes_eq p.0 k) (remove m k) (p ∷ remove m k)
 
 -- the smallest key above a byte string
-unfoldable pub next-key : {V : Type 0} → Map V → List ℕ → Option (List ℕ)
-next-key [] a = None
-next-key (p ∷ m) a = cond (below a p.0) (Some p.0) (next-key m a)
+unfoldable pub next_key : {V : Type 0} → Map V → List ℕ → Option (List ℕ)
+next_key [] a = None
+next_key (p ∷ m) a = cond (below a p.0) (Some p.0) (next_key m a)
 
 -- what a map has above a byte string
 unfoldable pub beyond : {V : Type 0} → List ℕ → Map V → Map V
@@ -35,14 +35,14 @@ abbrev pub keys : {V : Type 0} → Map V → List (List ℕ)
 keys m = map (λ p. p.0) m
 
 -- each key is above the given one
-abbrev pub All-above : {V : Type 0} → List ℕ → Map V → Type 0
-All-above a [] = Unit {0}
-All-above a (p ∷ m) = (below a p.0 ≡ true) × All-above a m
+abbrev pub AllAbove : {V : Type 0} → List ℕ → Map V → Type 0
+AllAbove a [] = Unit {0}
+AllAbove a (p ∷ m) = (below a p.0 ≡ true) × AllAbove a m
 
 -- the keys ascend, so none stands twice
 abbrev pub Ascending : {V : Type 0} → Map V → Type 0
 Ascending [] = Unit {0}
-Ascending (p ∷ m) = All-above p.0 m × Ascending m
+Ascending (p ∷ m) = AllAbove p.0 m × Ascending m
 
 -- pairs in any order, made into a map: of two with the same key the first counts
 unfoldable pub gathered : {V : Type 0} → List (List ℕ × V) → Map V
@@ -55,6 +55,6 @@ Distinct [] = Unit {0}
 Distinct (p ∷ ps) = (find ps p.0 ≡ None) × Distinct ps
 
 -- whether no key stands twice
-abbrev pub all-different : {V : Type 0} → List (List ℕ × V) → Bool
-all-different [] = true
-all-different (p ∷ ps) = not (is_some (find ps p.0)) && all-different ps
+abbrev pub all_different : {V : Type 0} → List (List ℕ × V) → Bool
+all_different [] = true
+all_different (p ∷ ps) = not (is_some (find ps p.0)) && all_different ps

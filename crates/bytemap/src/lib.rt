@@ -2,10 +2,10 @@
 //! There is no code here: the definitions are in specs/ and their laws in proofs/. The function below has the main
 //! law as its contract.
 
-ghost use Rattle.bytemap.specs.Laws.{A-map-is-what-it-finds};
+ghost use Rattle.bytemap.specs.Laws.{AMapIsWhatItFinds};
 
 /// Two maps that find the same are the same, and what is put is found, what is removed is not, and no other key is
 /// touched.
 pub fn a_map_is_what_it_finds()
-    ensures { A-map-is-what-it-finds }
+    ensures { AMapIsWhatItFinds }
 {}

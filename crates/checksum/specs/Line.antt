@@ -3,14 +3,14 @@
 -- and the name has two bytes for each of them.
 use Rattle.std.specs.Prelude.{ℕ, Bool, false, cond, ◌||◌, List, [], ◌∷◌, ◌++◌, ◌==◌}
 use Rattle.std.specs.List.{flat_map}
-use Rattle.hex.specs.Hex.{hex}
+use Rattle.hexadecimal.specs.Hex.{hex}
 
 abbrev pub is_special : ℕ → Bool
 is_special b = b == 92 || b == 10 || b == 13
 
-abbrev pub has-special : List ℕ → Bool
-has-special [] = false
-has-special (b ∷ bs) = is_special b || has-special bs
+abbrev pub has_special : List ℕ → Bool
+has_special [] = false
+has_special (b ∷ bs) = is_special b || has_special bs
 
 abbrev pub escape : ℕ → List ℕ
 escape b = cond (b == 92) (92 ∷ 92 ∷ []) (cond (b == 10) (92 ∷ 110 ∷ []) (cond (b == 13) (92 ∷ 114 ∷ []) (b ∷ [])))
@@ -19,4 +19,4 @@ abbrev pub escaped : List ℕ → List ℕ
 escaped name = flat_map escape name
 
 abbrev pub line_of : List ℕ → List ℕ → List ℕ
-line_of digest name = cond (has-special name) (92 ∷ []) [] ++ hex digest ++ (32 ∷ 32 ∷ []) ++ escaped name ++ (10 ∷ [])
+line_of digest name = cond (has_special name) (92 ∷ []) [] ++ hex digest ++ (32 ∷ 32 ∷ []) ++ escaped name ++ (10 ∷ [])

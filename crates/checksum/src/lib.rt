@@ -1,6 +1,6 @@
 // A line as `sha256sum` writes and `sha256sum -c` reads it: a digest and the name of its file.
 ghost use Rattle.std.specs.Prelude.{◌≡◌, ◌++◌, IfOk, OnOk};
-ghost use Rattle.checksum.specs.Line.{escape, escaped, has-special, is_special, line_of};
+ghost use Rattle.checksum.specs.Line.{escape, escaped, has_special, is_special, line_of};
 
 use std::alloc::{AllocError, Global};
 
@@ -12,7 +12,7 @@ fn is_special(b: u8) -> bool
 }
 
 fn has_special(name: &[u8]) -> bool
-    ensures { result ≡ has-special name.now }
+    ensures { result ≡ has_special name.now }
 {
     for b in name {
         if is_special(*b) {
@@ -51,7 +51,7 @@ pub fn line(heap: Global, digest: &[u8], name: &[u8]) -> Result<Vec<u8>, AllocEr
     if has_special(name) {
         text.push(b'\\')?;
     }
-    let digits = hex::encode(heap, digest)?;
+    let digits = hexadecimal::encode(heap, digest)?;
     text.extend_from_slice(digits.as_slice())?;
     text.extend_from_slice(b"  ")?;
     let safe_name = escape_name(heap, name)?;

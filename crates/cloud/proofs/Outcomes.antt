@@ -2,21 +2,21 @@
 use Rattle.std.proofs.Common.{◌≡◌, ℕ, ◌+◌, ◌-◌, ◌<◌, ◌≤◌, true, false, cond, ◌&&◌, eqb, leb, ◌⊎◌, List, length, Some, None, Ok, Err, Option, sym, refl, ap, ◌∙◌, arith}
 use Rattle.std.proofs.lemmas.Bool.Decides.{nat_tests}
 use Rattle.refusal.specs.declared.Cause.TheVariants.{Full, TooLong, NotHeld}
-use Rattle.bytemap.specs.Map.{Map, find, insert, remove, next-key}
+use Rattle.bytemap.specs.Map.{Map, find, insert, remove, next_key}
 use Rattle.cloud.specs.Meaning.{CloudMeaning}
-use Rattle.cloud.specs.Outcomes.{over, fits, free-after, put-answer, put-after, get-answer, get-part, drop-answer, drop-after, next-answer, next_place, Put-outcome, Get-outcome, Drop-outcome, Next-outcome}
+use Rattle.cloud.specs.Outcomes.{over, fits, free_after, put_answer, put_after, get_answer, get_part, drop_answer, drop_after, next_answer, next_place, PutOutcome, GetOutcome, DropOutcome, NextOutcome}
 
 abbrev Held : Type 0
 Held = Map (List ℕ)
 
-abbrev sound-cloud : Held → ℕ → CloudMeaning
-sound-cloud held free = record { sound = true; held = held; free = free }
+abbrev sound_cloud : Held → ℕ → CloudMeaning
+sound_cloud held free = record { sound = true; held = held; free = free }
 
 module _ (held : Held) (free : ℕ) (name : List ℕ) where
   module _ (value : List ℕ) where
-    pub put-too-long : (39 < length name) ⊎ (1024 < length value) → Put-outcome (sound-cloud held free) name value (Err TooLong) (sound-cloud held free)
-    unfolding put-answer put-after
-    put-too-long h =
+    pub put_too_long : (39 < length name) ⊎ (1024 < length value) → PutOutcome (sound_cloud held free) name value (Err TooLong) (sound_cloud held free)
+    unfolding put_answer put_after
+    put_too_long h =
         let f : fits name value ≡ false = grind (arith, nat_tests) in
         record { answer = λ _. rw f; after = λ _. rw f }
 
@@ -24,50 +24,50 @@ module _ (held : Held) (free : ℕ) (name : List ℕ) where
       within : fits name value ≡ true
       within = grind (arith, nat_tests)
 
-      pub put_full : find held name ≡ None → free ≡ 0 → Put-outcome (sound-cloud held free) name value (Err Full) (sound-cloud held free)
-      unfolding put-answer put-after
+      pub put_full : find held name ≡ None → free ≡ 0 → PutOutcome (sound_cloud held free) name value (Err Full) (sound_cloud held free)
+      unfolding put_answer put_after
       put_full none full = record { answer = λ _. rw (within, none, full); after = λ _. rw (within, none, full) }
 
-      pub put-new : find held name ≡ None → 0 < free → (held' : Held) (free' : ℕ) → held' ≡ insert held name value → free' ≡ free - 1 → Put-outcome (sound-cloud held free) name value (Ok tt) (sound-cloud held' free')
-      unfolding put-answer put-after
-      put-new none some held' free' h f =
+      pub put_new : find held name ≡ None → 0 < free → (held' : Held) (free' : ℕ) → held' ≡ insert held name value → free' ≡ free - 1 → PutOutcome (sound_cloud held free) name value (Ok tt) (sound_cloud held' free')
+      unfolding put_answer put_after
+      put_new none some held' free' h f =
           let e : eqb free 0 ≡ false = grind (arith, nat_tests) in
           record { answer = λ _. rw (within, none, e); after = λ _. rw (within, none, e, none, h, f) }
 
-      pub put-again : (old : List ℕ) → find held name ≡ Some old → (held' : Held) (free' : ℕ) → held' ≡ insert held name value → free' ≡ free → Put-outcome (sound-cloud held free) name value (Ok tt) (sound-cloud held' free')
-      unfolding put-answer put-after
-      put-again old some held' free' h f = record { answer = λ _. rw (within, some); after = λ _. rw (within, some, some, h, f) }
+      pub put_again : (old : List ℕ) → find held name ≡ Some old → (held' : Held) (free' : ℕ) → held' ≡ insert held name value → free' ≡ free → PutOutcome (sound_cloud held free) name value (Ok tt) (sound_cloud held' free')
+      unfolding put_answer put_after
+      put_again old some held' free' h f = record { answer = λ _. rw (within, some); after = λ _. rw (within, some, some, h, f) }
 
   module _ (part : List ℕ) where
-    pub get-missing : find held name ≡ None → Get-outcome (sound-cloud held free) name part (Err NotHeld) part (sound-cloud held free)
-    unfolding get-answer get-part
-    get-missing none = record { within = tt; answer = λ _. rw none; written = λ _. rw none; after = λ _. refl }
+    pub get_missing : find held name ≡ None → GetOutcome (sound_cloud held free) name part (Err NotHeld) part (sound_cloud held free)
+    unfolding get_answer get_part
+    get_missing none = record { within = tt; answer = λ _. rw none; written = λ _. rw none; after = λ _. refl }
 
-    pub get-short : (value : List ℕ) → find held name ≡ Some value → length part < length value → Get-outcome (sound-cloud held free) name part (Err TooLong) part (sound-cloud held free)
-    unfolding get-answer get-part
-    get-short value some short =
+    pub get_short : (value : List ℕ) → find held name ≡ Some value → length part < length value → GetOutcome (sound_cloud held free) name part (Err TooLong) part (sound_cloud held free)
+    unfolding get_answer get_part
+    get_short value some short =
         let e : leb (length value) (length part) ≡ false = grind (arith, nat_tests) in
         record { within = tt; answer = λ _. rw (some, e); written = λ _. rw (some, e); after = λ _. refl }
 
-    pub get-done : (value : List ℕ) → find held name ≡ Some value → length value ≤ length part → (n : ℕ) (part' : List ℕ) → n ≡ length value → part' ≡ over value part → Get-outcome (sound-cloud held free) name part (Ok n) part' (sound-cloud held free)
-    unfolding get-answer get-part
-    get-done value some short n part' l w =
+    pub get_done : (value : List ℕ) → find held name ≡ Some value → length value ≤ length part → (n : ℕ) (part' : List ℕ) → n ≡ length value → part' ≡ over value part → GetOutcome (sound_cloud held free) name part (Ok n) part' (sound_cloud held free)
+    unfolding get_answer get_part
+    get_done value some short n part' l w =
         let e : leb (length value) (length part) ≡ true = grind (arith, nat_tests) in
         record { within = omega arith; answer = λ _. rw (some, e, l); written = λ _. rw (some, e, w); after = λ _. refl }
 
-  pub drop-missing : find held name ≡ None → Drop-outcome (sound-cloud held free) name (Err NotHeld) (sound-cloud held free)
-  unfolding drop-answer drop-after
-  drop-missing none = record { answer = λ _. rw none; after = λ _. rw none }
+  pub drop_missing : find held name ≡ None → DropOutcome (sound_cloud held free) name (Err NotHeld) (sound_cloud held free)
+  unfolding drop_answer drop_after
+  drop_missing none = record { answer = λ _. rw none; after = λ _. rw none }
 
-  pub drop-done : (value : List ℕ) → find held name ≡ Some value → (held' : Held) (free' : ℕ) → held' ≡ remove held name → free' ≡ free + 1 → Drop-outcome (sound-cloud held free) name (Ok tt) (sound-cloud held' free')
-  unfolding drop-answer drop-after
-  drop-done value some held' free' h f = record { answer = λ _. rw some; after = λ _. rw (some, h, f) }
+  pub drop_done : (value : List ℕ) → find held name ≡ Some value → (held' : Held) (free' : ℕ) → held' ≡ remove held name → free' ≡ free + 1 → DropOutcome (sound_cloud held free) name (Ok tt) (sound_cloud held' free')
+  unfolding drop_answer drop_after
+  drop_done value some held' free' h f = record { answer = λ _. rw some; after = λ _. rw (some, h, f) }
 
 module _ (held : Held) (free : ℕ) (above place : List ℕ) where
-  pub next-end : next-key held above ≡ None → Next-outcome (sound-cloud held free) above place (Ok None) place (sound-cloud held free)
-  unfolding next-answer next_place
-  next-end none = record { within = tt; answer = λ _. rw none; written = λ _. rw none; after = λ _. refl }
+  pub next_end : next_key held above ≡ None → NextOutcome (sound_cloud held free) above place (Ok None) place (sound_cloud held free)
+  unfolding next_answer next_place
+  next_end none = record { within = tt; answer = λ _. rw none; written = λ _. rw none; after = λ _. refl }
 
-  pub next-found : (name : List ℕ) → next-key held above ≡ Some name → length name ≤ 39 → (n : ℕ) (place' : List ℕ) → n ≡ length name → place' ≡ over name place → Next-outcome (sound-cloud held free) above place (Ok (Some n)) place' (sound-cloud held free)
-  unfolding next-answer next_place
-  next-found name some short n place' l w = record { within = omega arith; answer = λ _. rw (some, l); written = λ _. rw (some, w); after = λ _. refl }
+  pub next_found : (name : List ℕ) → next_key held above ≡ Some name → length name ≤ 39 → (n : ℕ) (place' : List ℕ) → n ≡ length name → place' ≡ over name place → NextOutcome (sound_cloud held free) above place (Ok (Some n)) place' (sound_cloud held free)
+  unfolding next_answer next_place
+  next_found name some short n place' l w = record { within = omega arith; answer = λ _. rw (some, l); written = λ _. rw (some, w); after = λ _. refl }

@@ -4,89 +4,89 @@ use Rattle.std.specs.Option.{option_map}
 use Rattle.std.specs.Str.{bytes_eq}
 use Rattle.std.proofs.lemmas.List.{take_at}
 use Rattle.std.proofs.lemmas.Bool.{cases_Bool, le-leb}
-use Rattle.bytes.specs.Order.{below}
-use Rattle.bytemap.specs.Map.{Map, find, insert, remove, next-key, beyond, keys, All-above, Ascending}
-use Rattle.bytemap.proofs.Find.{apart, same_self, same-is, find-insert, find-remove, find-empty}
-use Rattle.bytemap.proofs.Walk.{beyond-none, beyond-next}
-use Rattle.cloud.specs.Meaning.{CloudMeaning, Within-limits}
-use Rattle.cloud.specs.Outcomes.{Done, Length, NextLength, over, put-answer, put-after, when-put, get-answer, get-part, drop-answer, drop-after, when-dropped, next-answer, next_place, place-with, Put-outcome, Get-outcome, Drop-outcome, Next-outcome}
-use Rattle.cloud.specs.Laws.{Other-call, put, get, drop as dropped, next, Other-calls, none, more, Walk, end, step, What-is-put-is-got-back, Other-names-keep-their-values, Next-walks-all-names}
+use Rattle.byte_strings.specs.Order.{below}
+use Rattle.bytemap.specs.Map.{Map, find, insert, remove, next_key, beyond, keys, AllAbove, Ascending}
+use Rattle.bytemap.proofs.Find.{apart, same_self, same_is, find_insert, find_remove, find_empty}
+use Rattle.bytemap.proofs.Walk.{beyond_none, beyond_next}
+use Rattle.cloud.specs.Meaning.{CloudMeaning, WithinLimits}
+use Rattle.cloud.specs.Outcomes.{Done, Length, NextLength, over, put_answer, put_after, when_put, get_answer, get_part, drop_answer, drop_after, when_dropped, next_answer, next_place, place_with, PutOutcome, GetOutcome, DropOutcome, NextOutcome}
+use Rattle.cloud.specs.Laws.{OtherCall, put, get, drop as dropped, next, OtherCalls, none, more, Walk, end, step, WhatIsPutIsGotBack, OtherNamesKeepTheirValues, NextWalksAllNames}
 
 -- ---- one call
 
 module _ (m : CloudMeaning) (n : List ℕ) where
-  pub put-stays-sound : (v : List ℕ) → (put-after m n v).sound ≡ m.sound
-  unfolding put-after
-  put-stays-sound v = kept (put-answer m n v) where
-    kept : (r : Done) → (when-put r m n v).sound ≡ m.sound
+  pub put_stays_sound : (v : List ℕ) → (put_after m n v).sound ≡ m.sound
+  unfolding put_after
+  put_stays_sound v = kept (put_answer m n v) where
+    kept : (r : Done) → (when_put r m n v).sound ≡ m.sound
     kept (Ok t) = refl
     kept (Err e) = refl
 
-  pub put-finds-others : (v k : List ℕ) → (n ≡ k → ⊥) → find (put-after m n v).held k ≡ find m.held k
-  unfolding put-after
-  put-finds-others v k other = kept (put-answer m n v) where
-    kept : (r : Done) → find (when-put r m n v).held k ≡ find m.held k
-    kept (Ok t) = find-insert m.held n v k ∙ rw (apart n k other)
+  pub put_finds_others : (v k : List ℕ) → (n ≡ k → ⊥) → find (put_after m n v).held k ≡ find m.held k
+  unfolding put_after
+  put_finds_others v k other = kept (put_answer m n v) where
+    kept : (r : Done) → find (when_put r m n v).held k ≡ find m.held k
+    kept (Ok t) = find_insert m.held n v k ∙ rw (apart n k other)
     kept (Err e) = refl
 
-  pub put-finds : (v : List ℕ) → put-answer m n v ≡ Ok tt → find (put-after m n v).held n ≡ Some v
-  unfolding put-after
-  put-finds v e = rw e (find-insert m.held n v n ∙ rw (same_self n))
+  pub put_finds : (v : List ℕ) → put_answer m n v ≡ Ok tt → find (put_after m n v).held n ≡ Some v
+  unfolding put_after
+  put_finds v e = rw e (find_insert m.held n v n ∙ rw (same_self n))
 
-  pub drop-stays-sound : (drop-after m n).sound ≡ m.sound
-  unfolding drop-after
-  drop-stays-sound = kept (drop-answer m n) where
-    kept : (r : Done) → (when-dropped r m n).sound ≡ m.sound
+  pub drop_stays_sound : (drop_after m n).sound ≡ m.sound
+  unfolding drop_after
+  drop_stays_sound = kept (drop_answer m n) where
+    kept : (r : Done) → (when_dropped r m n).sound ≡ m.sound
     kept (Ok t) = refl
     kept (Err e) = refl
 
-  pub drop-finds-others : (k : List ℕ) → (n ≡ k → ⊥) → find (drop-after m n).held k ≡ find m.held k
-  unfolding drop-after
-  drop-finds-others k other = kept (drop-answer m n) where
-    kept : (r : Done) → find (when-dropped r m n).held k ≡ find m.held k
-    kept (Ok t) = find-remove m.held n k ∙ rw (apart n k other)
+  pub drop_finds_others : (k : List ℕ) → (n ≡ k → ⊥) → find (drop_after m n).held k ≡ find m.held k
+  unfolding drop_after
+  drop_finds_others k other = kept (drop_answer m n) where
+    kept : (r : Done) → find (when_dropped r m n).held k ≡ find m.held k
+    kept (Ok t) = find_remove m.held n k ∙ rw (apart n k other)
     kept (Err e) = refl
 
 -- ---- runs of calls
 
-one-other : {name : List ℕ} {m m' : CloudMeaning} → m.sound ≡ true → Other-call name m m' → (m'.sound ≡ true) × (find m'.held name ≡ find m.held name)
-one-other {name} {m} {m'} s (put {n} {v} other o) = rw (o.after s) (put-stays-sound m n v ∙ s, put-finds-others m n v name other)
-one-other s (get o) = rw (o.after s) (s, refl)
-one-other {name} {m} {m'} s (dropped {n} other o) = rw (o.after s) (drop-stays-sound m n ∙ s, drop-finds-others m n name other)
-one-other s (next o) = rw (o.after s) (s, refl)
+one_other : {name : List ℕ} {m m' : CloudMeaning} → m.sound ≡ true → OtherCall name m m' → (m'.sound ≡ true) × (find m'.held name ≡ find m.held name)
+one_other {name} {m} {m'} s (put {n} {v} other o) = rw (o.after s) (put_stays_sound m n v ∙ s, put_finds_others m n v name other)
+one_other s (get o) = rw (o.after s) (s, refl)
+one_other {name} {m} {m'} s (dropped {n} other o) = rw (o.after s) (drop_stays_sound m n ∙ s, drop_finds_others m n name other)
+one_other s (next o) = rw (o.after s) (s, refl)
 
-all_others : {name : List ℕ} {m m' : CloudMeaning} → m.sound ≡ true → Other-calls name m m' → (m'.sound ≡ true) × (find m'.held name ≡ find m.held name)
+all_others : {name : List ℕ} {m m' : CloudMeaning} → m.sound ≡ true → OtherCalls name m m' → (m'.sound ≡ true) × (find m'.held name ≡ find m.held name)
 all_others s none = (s, refl)
 all_others s (more c o) =
     let a = all_others s c in
-    let b = one-other a.0 o in
+    let b = one_other a.0 o in
     (b.0, b.1 ∙ a.1)
 
-pub other-names-keep-their-values : Other-names-keep-their-values
-other-names-keep-their-values m m' name s c = (all_others s c).1
+pub other_names_keep_their_values : OtherNamesKeepTheirValues
+other_names_keep_their_values m m' name s c = (all_others s c).1
 
 -- a get of what is found
-got : (m m' : CloudMeaning) (name value part : List ℕ) (r : Length) (part' : List ℕ) → m.sound ≡ true → find m.held name ≡ Some value → length value ≤ length part → Get-outcome m name part r part' m'
+got : (m m' : CloudMeaning) (name value part : List ℕ) (r : Length) (part' : List ℕ) → m.sound ≡ true → find m.held name ≡ Some value → length value ≤ length part → GetOutcome m name part r part' m'
     → (r ≡ Ok (length value)) × (part' ≡ over value part)
-unfolding get-answer get-part
+unfolding get_answer get_part
 got m m' name value part r part' s e fits o =
     let t = le-leb (length value) (length part) fits in
     (o.answer s ∙ rw (e, t), o.written s ∙ rw (e, t))
 
-pub what-is-put-is-got-back : What-is-put-is-got-back
-what-is-put-is-got-back m m₁ m₂ m₃ name value part r part' s p c g fits =
-    let s₁ : m₁.sound ≡ true = rw (p.after s) (put-stays-sound m name value ∙ s) in
-    let f : find m₁.held name ≡ Some value = rw (p.after s) (put-finds m name value (sym (p.answer s))) in
+pub what_is_put_is_got_back : WhatIsPutIsGotBack
+what_is_put_is_got_back m m₁ m₂ m₃ name value part r part' s p c g fits =
+    let s₁ : m₁.sound ≡ true = rw (p.after s) (put_stays_sound m name value ∙ s) in
+    let f : find m₁.held name ≡ Some value = rw (p.after s) (put_finds m name value (sym (p.answer s))) in
     let a = all_others s₁ c in
     got m₂ m₃ name value part r part' a.0 (a.1 ∙ f) fits g
 
 -- ---- the walk by next
 
 -- what next answers and writes, of a sound cloud
-pub next-gives : (m m' : CloudMeaning) (above place place' : List ℕ) (n : ℕ) → m.sound ≡ true → Next-outcome m above place (Ok (Some n)) place' m' → next-key m.held above ≡ Some (take n place')
-unfolding next-answer next_place
-next-gives m m' above place place' n s o = given (next-key m.held above) refl where
-  given : (k : Option (List ℕ)) → next-key m.held above ≡ k → k ≡ Some (take n place')
+pub next_gives : (m m' : CloudMeaning) (above place place' : List ℕ) (n : ℕ) → m.sound ≡ true → NextOutcome m above place (Ok (Some n)) place' m' → next_key m.held above ≡ Some (take n place')
+unfolding next_answer next_place
+next_gives m m' above place place' n s o = given (next_key m.held above) refl where
+  given : (k : Option (List ℕ)) → next_key m.held above ≡ k → k ≡ Some (take n place')
   given None e = absurd (let c : Ok (Some n) ≡ Ok None = o.answer s ∙ rw e in grind arith)
   given (Some name) e =
       let a : Ok (Some n) ≡ Ok (Some (length name)) = o.answer s ∙ rw e in
@@ -94,19 +94,19 @@ next-gives m m' above place place' n s o = given (next-key m.held above) refl wh
       let w : place' ≡ over name place = o.written s ∙ rw e in
       ap Some (sym (ap (take n) w ∙ take_at name (drop (length name) place) n (sym l)))
 
-pub next-ends : (m m' : CloudMeaning) (above place place' : List ℕ) → m.sound ≡ true → Next-outcome m above place (Ok None) place' m' → next-key m.held above ≡ None
-unfolding next-answer
-next-ends m m' above place place' s o = given (next-key m.held above) refl where
-  given : (k : Option (List ℕ)) → next-key m.held above ≡ k → k ≡ None
+pub next_ends : (m m' : CloudMeaning) (above place place' : List ℕ) → m.sound ≡ true → NextOutcome m above place (Ok None) place' m' → next_key m.held above ≡ None
+unfolding next_answer
+next_ends m m' above place place' s o = given (next_key m.held above) refl where
+  given : (k : Option (List ℕ)) → next_key m.held above ≡ k → k ≡ None
   given None e = refl
   given (Some name) e = absurd (let c : Ok None ≡ Ok (Some (length name)) = o.answer s ∙ rw e in grind arith)
 
 walk_from : {m : CloudMeaning} {above : List ℕ} {walked : List (List ℕ)} → m.sound ≡ true → Ascending m.held → Walk m above walked → walked ≡ keys (beyond above m.held)
-walk_from {m} {above} s asc (end {m' = m'} {place = place} {place' = place'} o) = sym (ap keys (beyond-none above m.held (next-ends m m' above place place' s o)))
+walk_from {m} {above} s asc (end {m' = m'} {place = place} {place' = place'} o) = sym (ap keys (beyond_none above m.held (next_ends m m' above place place' s o)))
 walk_from {m} {above} s asc (step {m' = m'} {place = place} {place' = place'} {n = n} {names = names} o w) =
     let same = o.after s in
     let rest : names ≡ keys (beyond (take n place') m.held) = subst (λ x. x.sound ≡ true → Ascending x.held → names ≡ keys (beyond (take n place') x.held)) same (λ s' asc'. walk_from s' asc' w) s asc in
-    ap (λ x. take n place' ∷ x) rest ∙ sym (beyond-next above (take n place') m.held asc (next-gives m m' above place place' n s o))
+    ap (λ x. take n place' ∷ x) rest ∙ sym (beyond_next above (take n place') m.held asc (next_gives m m' above place place' n s o))
 
-pub next-walks-all-names : Next-walks-all-names
-next-walks-all-names m walked s limits w = walk_from s limits.ascending w
+pub next_walks_all_names : NextWalksAllNames
+next_walks_all_names m walked s limits w = walk_from s limits.ascending w

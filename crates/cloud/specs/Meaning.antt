@@ -10,14 +10,14 @@ pub record CloudMeaning : Type 0 where
   -- how many names more it can hold
   pub free : ℕ
 
-abbrev pub longest-name : ℕ
-longest-name = 39
+abbrev pub longest_name : ℕ
+longest_name = 39
 
-abbrev pub longest-value : ℕ
-longest-value = 1024
+abbrev pub longest_value : ℕ
+longest_value = 1024
 
 -- What holds of every cloud, sound or not: no name twice, names and values of limited length, at most 64 places.
-pub record Within-limits (m : CloudMeaning) : Type 0 where
+pub record WithinLimits (m : CloudMeaning) : Type 0 where
   pub ascending : Ascending m.held
-  pub short : (n v : List ℕ) → find m.held n ≡ Some v → (length n ≤ longest-name) × (length v ≤ longest-value)
+  pub short : (n v : List ℕ) → find m.held n ≡ Some v → (length n ≤ longest_name) × (length v ≤ longest_value)
   pub places : length m.held + m.free ≤ 64

@@ -1,8 +1,8 @@
 //! The calls at a cloud. Code above knows nothing else of one.
 
 ghost use Rattle.std.specs.Prelude.{ℕ, List};
-ghost use Rattle.cloud.specs.Meaning.{CloudMeaning, Within-limits};
-ghost use Rattle.cloud.specs.Outcomes.{Done, Length, NextLength, Put-outcome, Get-outcome, Drop-outcome, Next-outcome};
+ghost use Rattle.cloud.specs.Meaning.{CloudMeaning, WithinLimits};
+ghost use Rattle.cloud.specs.Outcomes.{Done, Length, NextLength, PutOutcome, GetOutcome, DropOutcome, NextOutcome};
 
 use refusal::Cause;
 
@@ -37,13 +37,13 @@ pub trait Cloud {
     fn next(&mut self, above: &[u8], place: &mut [u8; 39]) -> Result<Option<usize>, Cause>
         ensures { nexts self.old above.now place.old result place.new self.new };
 
-    ghost limited: { (s : Self) → Within-limits (meaning s) };
+    ghost limited: { (s : Self) → WithinLimits (meaning s) };
 
-    ghost putting: { (s : Self) (name value : List ℕ) (r : Done) (t : Self) → puts s name value r t → Put-outcome (meaning s) name value r (meaning t) };
+    ghost putting: { (s : Self) (name value : List ℕ) (r : Done) (t : Self) → puts s name value r t → PutOutcome (meaning s) name value r (meaning t) };
 
-    ghost getting: { (s : Self) (name part : List ℕ) (r : Length) (part' : List ℕ) (t : Self) → gets s name part r part' t → Get-outcome (meaning s) name part r part' (meaning t) };
+    ghost getting: { (s : Self) (name part : List ℕ) (r : Length) (part' : List ℕ) (t : Self) → gets s name part r part' t → GetOutcome (meaning s) name part r part' (meaning t) };
 
-    ghost dropping: { (s : Self) (name : List ℕ) (r : Done) (t : Self) → drops s name r t → Drop-outcome (meaning s) name r (meaning t) };
+    ghost dropping: { (s : Self) (name : List ℕ) (r : Done) (t : Self) → drops s name r t → DropOutcome (meaning s) name r (meaning t) };
 
-    ghost nexting: { (s : Self) (above place : List ℕ) (r : NextLength) (place' : List ℕ) (t : Self) → nexts s above place r place' t → Next-outcome (meaning s) above place r place' (meaning t) };
+    ghost nexting: { (s : Self) (above place : List ℕ) (r : NextLength) (place' : List ℕ) (t : Self) → nexts s above place r place' t → NextOutcome (meaning s) above place r place' (meaning t) };
 }

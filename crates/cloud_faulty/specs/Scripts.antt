@@ -4,12 +4,12 @@ use Rattle.cloud_faulty.specs.declared.fault.Fault.{Fault}
 use Rattle.cloud_faulty.specs.declared.script.Script.{Script}
 use Rattle.cloud_faulty.specs.Faults.{first, rest}
 
-abbrev pub faults-left : Script → List Fault
-faults-left s = drop s.used (take s.len s.faults)
+abbrev pub faults_left : Script → List Fault
+faults_left s = drop s.used (take s.len s.faults)
 
-abbrev pub next-fault : Script → Fault
-next-fault s = first (faults-left s)
+abbrev pub next_fault : Script → Fault
+next_fault s = first (faults_left s)
 
 -- the next fault is used up, and no other
-abbrev pub Used-up : Script → Script → Type 0
-Used-up s t = faults-left t ≡ rest (faults-left s)
+abbrev pub UsedUp : Script → Script → Type 0
+UsedUp s t = faults_left t ≡ rest (faults_left s)

@@ -1,7 +1,7 @@
 //! What a call can be made to do.
 
 ghost use Rattle.std.specs.Prelude.{◌≡◌};
-ghost use Rattle.cloud_faulty.specs.Faults.{fault-of};
+ghost use Rattle.cloud_faulty.specs.Faults.{fault_of};
 
 /// What one call at a faulty cloud does.
 #[derive(Clone, Copy)]
@@ -19,7 +19,7 @@ pub enum Fault {
 impl Fault {
     /// The fault of a code, 0 to 3.
     pub fn of(code: u8) -> Option<Fault>
-        ensures { result ≡ fault-of code }
+        ensures { result ≡ fault_of code }
     {
         match code {
             0 => Some(Fault::Pass),

@@ -6,10 +6,10 @@ use Rattle.refusal.specs.declared.Rejected.{Rejected}
 use Rattle.cloud.specs.Meaning.{CloudMeaning}
 use Rattle.cloud_fixed.specs.declared.place.Place.{Place}
 use Rattle.cloud_fixed.specs.declared.fixed.FixedCloud.{FixedCloud}
-use Rattle.cloud_fixed.specs.Places.{meaning-of}
+use Rattle.cloud_fixed.specs.Places.{meaning_of}
 
-abbrev pub fixed-meaning : FixedCloud → CloudMeaning
-fixed-meaning c = meaning-of (vec_items c.places) c.limit
+abbrev pub fixed_meaning : FixedCloud → CloudMeaning
+fixed_meaning c = meaning_of (vec_items c.places) c.limit
 
 -- 1 to 32 places, and room for all of them
 abbrev pub supported : ℕ → ℕ → Bool
@@ -19,6 +19,6 @@ supported places room = nat_le 1 places && nat_le places 32 && nat_le places roo
 -- Otherwise the memory comes back as it was.
 abbrev pub Made : Vec Place Global → ℕ → Result FixedCloud (Rejected (Vec Place Global)) → Type 0
 Made memory places (Ok cloud) =
-    (supported places (vec_capacity memory) ≡ true) × (fixed-meaning cloud ≡ record { sound = true; held = []; free = places })
+    (supported places (vec_capacity memory) ≡ true) × (fixed_meaning cloud ≡ record { sound = true; held = []; free = places })
 Made memory places (Err rejected) =
     (supported places (vec_capacity memory) ≡ false) × (rejected.refusal ≡ UnsupportedStorage) × (rejected.given ≡ memory)

@@ -1,6 +1,6 @@
 -- What places hold.
 use Rattle.std.specs.Prelude.{◌≡◌, ℕ, ◌-◌, ◌<◌, Bool, true, not, ◌&&◌, List, [], ◌∷◌, map, length, take, is_some, Some, None, Option, slice_index_or}
-use Rattle.bytemap.specs.Map.{find, next-key, gathered}
+use Rattle.bytemap.specs.Map.{find, next_key, gathered}
 use Rattle.cloud.specs.Meaning.{CloudMeaning}
 use Rattle.cloud_fixed.specs.declared.place.Place.{Place}
 
@@ -17,20 +17,20 @@ abbrev pub entries : List Place → List (List ℕ × List ℕ)
 entries ps = map entry ps
 
 -- whether no name stands twice
-abbrev pub all-different : List (List ℕ × List ℕ) → Bool
-all-different [] = true
-all-different (p ∷ ps) = not (is_some (find ps p.0)) && all-different ps
+abbrev pub all_different : List (List ℕ × List ℕ) → Bool
+all_different [] = true
+all_different (p ∷ ps) = not (is_some (find ps p.0)) && all_different ps
 
 -- a cloud with these places in use, of as many as the limit
-abbrev pub meaning-of : List Place → ℕ → CloudMeaning
-meaning-of ps limit = record { sound = true; held = gathered (entries ps); free = limit - length ps }
+abbrev pub meaning_of : List Place → ℕ → CloudMeaning
+meaning_of ps limit = record { sound = true; held = gathered (entries ps); free = limit - length ps }
 
 -- the answer of a search for the place of a name
-abbrev pub Place-of : List Place → List ℕ → Option ℕ → Type 0
-Place-of ps name None = find (entries ps) name ≡ None
-Place-of ps name (Some i) = (i < length ps) × ((d : Place) → name_of (slice_index_or ps i d) ≡ name)
+abbrev pub PlaceOf : List Place → List ℕ → Option ℕ → Type 0
+PlaceOf ps name None = find (entries ps) name ≡ None
+PlaceOf ps name (Some i) = (i < length ps) × ((d : Place) → name_of (slice_index_or ps i d) ≡ name)
 
 -- the answer of a search for the place of the smallest name above some bytes
-abbrev pub Next-place-of : List Place → List ℕ → Option ℕ → Type 0
-Next-place-of ps above None = next-key (gathered (entries ps)) above ≡ None
-Next-place-of ps above (Some i) = (i < length ps) × ((d : Place) → next-key (gathered (entries ps)) above ≡ Some (name_of (slice_index_or ps i d)))
+abbrev pub NextPlaceOf : List Place → List ℕ → Option ℕ → Type 0
+NextPlaceOf ps above None = next_key (gathered (entries ps)) above ≡ None
+NextPlaceOf ps above (Some i) = (i < length ps) × ((d : Place) → next_key (gathered (entries ps)) above ≡ Some (name_of (slice_index_or ps i d)))

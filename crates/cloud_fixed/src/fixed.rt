@@ -1,7 +1,7 @@
 //! The fixed cloud.
 
 ghost use Rattle.std.specs.Prelude.{◌≡◌, ◌≤◌, true, vec_len, vec_capacity};
-ghost use Rattle.cloud_fixed.specs.Places.{entries, all-different};
+ghost use Rattle.cloud_fixed.specs.Places.{entries, all_different};
 
 use crate::place::Place;
 
@@ -13,7 +13,7 @@ mod making;
 pub struct FixedCloud {
     places: Vec<Place>,
     limit: usize,
-    ghost distinct: { all-different (entries places.items) ≡ true },
+    ghost distinct: { all_different (entries places.items) ≡ true },
     ghost used: { vec_len places ≤ limit },
     ghost reserved: { limit ≤ vec_capacity places },
     ghost some: { 1 ≤ limit },

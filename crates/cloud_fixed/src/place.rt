@@ -1,14 +1,14 @@
 //! A place: a name and its value, in 1,066 bytes without a gap.
 
 ghost use Rattle.std.specs.Prelude.{◌≡◌, ◌≤◌, Bool, length};
-ghost use Rattle.bytes.specs.Order.{at_most, below};
+ghost use Rattle.byte_strings.specs.Order.{at_most, below};
 ghost use Rattle.cloud_fixed.specs.Places.{name_of, value_of, entry};
-ghost use Rattle.bytes.proofs.Order.{preorder-by, at-most-preorder};
+ghost use Rattle.byte_strings.proofs.Order.{preorder_by, at_most_preorder};
 
 use crate::name::Name;
 use crate::value::Value;
-use bytes::compare::{is_at_most, is_below};
-use bytes::successor::{Bound, Ordered};
+use byte_strings::compare::{is_at_most, is_below};
+use byte_strings::successor::{Bound, Ordered};
 
 /// Memory for one name of up to 39 bytes and its value of up to 1,024.
 #[derive(Drop)]
@@ -53,7 +53,7 @@ impl Place {
 impl Ordered for Place {
     ghost le = { λ p q. at_most (name_of p) (name_of q) };
 
-    ghost ordered = { preorder-by name_of at_most at-most-preorder };
+    ghost ordered = { preorder_by name_of at_most at_most_preorder };
 
     fn is_at_most(&self, other: &Place) -> bool {
         is_at_most(self.name(), other.name())

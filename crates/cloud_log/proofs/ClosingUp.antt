@@ -6,14 +6,14 @@ use Rattle.std.specs.List.{flat_map}
 use Rattle.std.proofs.lemmas.List.{take_at, drop_at, take-take, drop-take, drop-drop, length-take-le, take_more_set, drop-set-lt, drop_more, take_all, drop_all, map_push, flat_map_more}
 use Rattle.std.proofs.lemmas.Bool.{and_parts, leb-true}
 use Rattle.std.proofs.lemmas.Slice.Eq.{bytes_eq-Decides}
-use Rattle.log_record.specs.Records.{Record, stored, encoded, all-encoded}
-use Rattle.log_record.specs.Replay.{stored-pair}
+use Rattle.log_record.specs.Records.{Record, stored, encoded, all_encoded}
+use Rattle.log_record.specs.Replay.{stored_pair}
 use Rattle.log_record.specs.Written.{overwritten}
-use Rattle.log_record.proofs.Overwriting.{overwritten-is, take-overwritten, rest-overwritten, length-overwritten}
+use Rattle.log_record.proofs.Overwriting.{overwritten_is, take_overwritten, rest_overwritten, length_overwritten}
 use Rattle.cloud_log.specs.declared.entry.Entry.{Entry}
-use Rattle.cloud_log.specs.Index.{name_of, record-size, end_of, record-bytes, value_in, pair-in, record-in, recorded, laid}
+use Rattle.cloud_log.specs.Index.{name_of, record_size, end_of, record_bytes, value_in, pair_in, record_in, recorded, laid}
 use Rattle.cloud_log.specs.Closing.{Closed}
-use Rattle.cloud_log.specs.Standing.{name-short, moved-pair, moved-recorded, Head, head_of, laid_none, laid-lower, laid-push, laid-same-front, laid-same-rest, laid-within}
+use Rattle.cloud_log.specs.Standing.{name_short, moved_pair, moved_recorded, Head, head_of, laid_none, laid_lower, laid_push, laid_same_front, laid_same_rest, laid_within}
 
 -- a part of bytes, copied to another place in them
 pub pasted : (b : List ℕ) (from n to : ℕ) → from + n ≤ length b → paste b to (drop from b) (from + n - from) ≡ overwritten b to (take n (drop from b))
@@ -23,30 +23,30 @@ pasted b from n to l =
     ap (paste b to (drop from b)) k
     ∙ append_assoc (take to b) (take n (drop from b)) (drop (to + n) b)
     ∙ ap (λ j. take to b ++ (take n (drop from b) ++ drop (to + j) b)) (sym m)
-    ∙ sym (overwritten-is b to (take n (drop from b)))
+    ∙ sym (overwritten_is b to (take n (drop from b)))
 
 -- The first i records are moved.
 pub record Closing (b₀ : List ℕ) (es₀ : List Entry) (b : List ℕ) (es : List Entry) (i end : ℕ) : Type 0 where
-  pub all-bytes : length b ≡ length b₀
-  pub all-entries : length es ≡ length es₀
+  pub all_bytes : length b ≡ length b₀
+  pub all_entries : length es ≡ length es₀
   pub front : laid b 0 end (take i es) ≡ true
-  pub packed : take end b ≡ all-encoded (map stored-pair (map (pair-in b) (take i es)))
+  pub packed : take end b ≡ all_encoded (map stored_pair (map (pair_in b) (take i es)))
   pub rest : laid b end (length b) (drop i es) ≡ true
-  pub kept : map (pair-in b) (take i es) ++ map (pair-in b) (drop i es) ≡ map (pair-in b₀) es₀
+  pub kept : map (pair_in b) (take i es) ++ map (pair_in b) (drop i es) ≡ map (pair_in b₀) es₀
   pub small : end ≤ 1066 * i
 
-pub closing-none : (b : List ℕ) (es : List Entry) → laid b 0 (length b) es ≡ true → Closing b es b es 0 0
-closing-none b es t =
-    record { all-bytes = refl; all-entries = refl; front = laid_none b 0 0 (omega arith); packed = refl; rest = t; kept = refl; small = omega arith }
+pub closing_none : (b : List ℕ) (es : List Entry) → laid b 0 (length b) es ≡ true → Closing b es b es 0 0
+closing_none b es t =
+    record { all_bytes = refl; all_entries = refl; front = laid_none b 0 0 (omega arith); packed = refl; rest = t; kept = refl; small = omega arith }
 
-pub closing-all : (b₀ : List ℕ) (es₀ : List Entry) (b : List ℕ) (es : List Entry) (i end : ℕ) → length es ≤ i → i ≤ length es → Closing b₀ es₀ b es i end → Closed b₀ es₀ b es end
-closing-all b₀ es₀ b es i end l u c =
+pub closing_all : (b₀ : List ℕ) (es₀ : List Entry) (b : List ℕ) (es : List Entry) (i end : ℕ) → length es ≤ i → i ≤ length es → Closing b₀ es₀ b es i end → Closed b₀ es₀ b es end
+closing_all b₀ es₀ b es i end l u c =
     let t = take_all i es l in
     let d = drop_all i es l in
     record {
       in_order = subst (λ x. laid b 0 end x ≡ true) t c.front;
-      packed = c.packed ∙ ap (λ x. all-encoded (map stored-pair (map (pair-in b) x))) t;
-      kept = sym (append-nil (map (pair-in b) es)) ∙ ap (λ x. map (pair-in b) es ++ map (pair-in b) x) (sym d) ∙ ap (λ x. map (pair-in b) x ++ map (pair-in b) (drop i es)) (sym t) ∙ c.kept;
+      packed = c.packed ∙ ap (λ x. all_encoded (map stored_pair (map (pair_in b) x))) t;
+      kept = sym (append-nil (map (pair_in b) es)) ∙ ap (λ x. map (pair_in b) es ++ map (pair_in b) x) (sym d) ∙ ap (λ x. map (pair_in b) x ++ map (pair_in b) (drop i es)) (sym t) ∙ c.kept;
       small = omega (arith, c.small);
     }
 
@@ -56,132 +56,132 @@ pub record Turn (b : List ℕ) (end : ℕ) (e : Entry) : Type 0 where
   pub down : end ≤ e.offset
   pub until : end_of e ≤ length b
   pub few : e.size ≤ 1024
-  pub most : record-size e ≤ 1066
+  pub most : record_size e ≤ 1066
   pub stands : recorded b e ≡ true
 
 module _ (b₀ : List ℕ) (es₀ : List Entry) (b : List ℕ) (es : List Entry) (i end : ℕ) (c : Closing b₀ es₀ b es i end) (lt : i < length es) (e : Entry) (is : e ≡ get_or es i e) where
-  next-is : drop i es ≡ e ∷ drop (i + 1) es
-  next-is = drop_more es i e lt ∙ ap (λ x. x ∷ drop (i + 1) es) (sym is)
+  next_is : drop i es ≡ e ∷ drop (i + 1) es
+  next_is = drop_more es i e lt ∙ ap (λ x. x ∷ drop (i + 1) es) (sym is)
 
-  next-head : Head b end (length b) e (drop (i + 1) es)
-  next-head = head_of b end (length b) e (drop (i + 1) es) (subst (λ x. laid b end (length b) x ≡ true) next-is c.rest)
+  next_head : Head b end (length b) e (drop (i + 1) es)
+  next_head = head_of b end (length b) e (drop (i + 1) es) (subst (λ x. laid b end (length b) x ≡ true) next_is c.rest)
 
   pub turn : Turn b end e
   turn =
-      let h = next-head in
-      let r = and_parts (bytes_eq (record-bytes b e) (encoded (record-in b e))) (leb e.size 1024) h.stands in
+      let h = next_head in
+      let r = and_parts (bytes_eq (record_bytes b e) (encoded (record_in b e))) (leb e.size 1024) h.stands in
       let s = leb-true e.size 1024 r.1 in
-      record { down = h.from; until = laid-within b (end_of e) (length b) (drop (i + 1) es) h.rest; few = s; most = omega (arith, name-short e); stands = h.stands }
+      record { down = h.from; until = laid_within b (end_of e) (length b) (drop (i + 1) es) h.rest; few = s; most = omega (arith, name_short e); stands = h.stands }
 
   -- its bytes
   part : List ℕ
-  part = record-bytes b e
+  part = record_bytes b e
 
-  part_length : length part ≡ record-size e
+  part_length : length part ≡ record_size e
   unfolding part
-  part_length = let t = turn in length-take-le (record-size e) (drop e.offset b) (omega (arith, t.until, length-drop e.offset b))
+  part_length = let t = turn in length-take-le (record_size e) (drop e.offset b) (omega (arith, t.until, length-drop e.offset b))
 
-  part-encoded : part ≡ encoded (record-in b e)
+  part_encoded : part ≡ encoded (record_in b e)
   unfolding part
-  part-encoded = (bytes_eq-Decides _ _).0 (and_parts (bytes_eq (record-bytes b e) (encoded (record-in b e))) (leb e.size 1024) turn.stands).0
+  part_encoded = (bytes_eq-Decides _ _).0 (and_parts (bytes_eq (record_bytes b e) (encoded (record_in b e))) (leb e.size 1024) turn.stands).0
 
-  module _ (b' : List ℕ) (e' : Entry) (written : b' ≡ overwritten b end (record-bytes b e)) (named : name_of e' ≡ name_of e) (sized : e'.size ≡ e.size) (placed : e'.offset ≡ end) where
-    room : end + length (record-bytes b e) ≤ length b
+  module _ (b' : List ℕ) (e' : Entry) (written : b' ≡ overwritten b end (record_bytes b e)) (named : name_of e' ≡ name_of e) (sized : e'.size ≡ e.size) (placed : e'.offset ≡ end) where
+    room : end + length (record_bytes b e) ≤ length b
     unfolding part
     room = let t = turn in omega (arith, part_length, t.down, t.until)
 
-    front_bytes : take (end + record-size e) b' ≡ take end b ++ record-bytes b e
+    front_bytes : take (end + record_size e) b' ≡ take end b ++ record_bytes b e
     unfolding part
-    front_bytes = ap (take (end + record-size e)) written ∙ ap (λ n. take (end + n) (overwritten b end (record-bytes b e))) (sym part_length) ∙ take-overwritten b end (record-bytes b e) room
+    front_bytes = ap (take (end + record_size e)) written ∙ ap (λ n. take (end + n) (overwritten b end (record_bytes b e))) (sym part_length) ∙ take_overwritten b end (record_bytes b e) room
 
     front_length : length (take end b) ≡ end
     front_length = length-take-le end b (omega (arith, room))
 
     front_same : take end b' ≡ take end b
-    front_same = sym (take-take end (end + record-size e) b' (omega arith)) ∙ ap (take end) front_bytes ∙ take_at (take end b) (record-bytes b e) end front_length
+    front_same = sym (take-take end (end + record_size e) b' (omega arith)) ∙ ap (take end) front_bytes ∙ take_at (take end b) (record_bytes b e) end front_length
 
-    rest-same : drop (end_of e) b' ≡ drop (end_of e) b
+    rest_same : drop (end_of e) b' ≡ drop (end_of e) b
     unfolding part
-    rest-same =
+    rest_same =
         let t = turn in
-        let k : end + length (record-bytes b e) + (e.offset - end) ≡ end_of e = omega (arith, part_length, t.down) in
+        let k : end + length (record_bytes b e) + (e.offset - end) ≡ end_of e = omega (arith, part_length, t.down) in
         ap (drop (end_of e)) written
-        ∙ ap (λ n. drop n (overwritten b end (record-bytes b e))) (sym k)
-        ∙ rest-overwritten b end (record-bytes b e) room (e.offset - end)
+        ∙ ap (λ n. drop n (overwritten b end (record_bytes b e))) (sym k)
+        ∙ rest_overwritten b end (record_bytes b e) room (e.offset - end)
         ∙ ap (λ n. drop n b) k
 
-    same_size : record-size e' ≡ record-size e
+    same_size : record_size e' ≡ record_size e
     same_size = omega (arith, ap length named, sized)
 
-    moved-bytes : record-bytes b' e' ≡ record-bytes b e
-    moved-bytes =
+    moved_bytes : record_bytes b' e' ≡ record_bytes b e
+    moved_bytes =
         (λ j. take (same_size j) (drop (placed j) b'))
-        ∙ sym (drop-take end (record-size e) b')
+        ∙ sym (drop-take end (record_size e) b')
         ∙ ap (drop end) front_bytes
-        ∙ drop_at (take end b) (record-bytes b e) end front_length
+        ∙ drop_at (take end b) (record_bytes b e) end front_length
 
     before : List (List ℕ × List ℕ)
-    before = map (pair-in b) (take i es)
+    before = map (pair_in b) (take i es)
 
-    moved-pairs : map (pair-in b') (take (i + 1) (set es i e')) ≡ before ++ (pair-in b e ∷ [])
+    moved_pairs : map (pair_in b') (take (i + 1) (set es i e')) ≡ before ++ (pair_in b e ∷ [])
     unfolding before
-    moved-pairs =
-        let f = (laid-same-front b b' 0 end (take i es) c.front front_same).1 in
-        let p = moved-pair b b' e e' named sized moved-bytes in
-        ap (map (pair-in b')) (take_more_set es i e' lt) ∙ map_push (pair-in b') (take i es) e' ∙ (λ j. f j ++ (p j ∷ []))
+    moved_pairs =
+        let f = (laid_same_front b b' 0 end (take i es) c.front front_same).1 in
+        let p = moved_pair b b' e e' named sized moved_bytes in
+        ap (map (pair_in b')) (take_more_set es i e' lt) ∙ map_push (pair_in b') (take i es) e' ∙ (λ j. f j ++ (p j ∷ []))
 
-    more-front : laid b' 0 (end + record-size e) (take (i + 1) (set es i e')) ≡ true
-    more-front =
-        let f = (laid-same-front b b' 0 end (take i es) c.front front_same).0 in
-        let r = moved-recorded b b' e e' named sized moved-bytes turn.stands in
-        let g = laid-push b' 0 end (end + record-size e) (take i es) e' f (omega (arith, placed)) r (omega (arith, placed, same_size)) in
-        subst (λ x. laid b' 0 (end + record-size e) x ≡ true) (sym (take_more_set es i e' lt)) g
+    more_front : laid b' 0 (end + record_size e) (take (i + 1) (set es i e')) ≡ true
+    more_front =
+        let f = (laid_same_front b b' 0 end (take i es) c.front front_same).0 in
+        let r = moved_recorded b b' e e' named sized moved_bytes turn.stands in
+        let g = laid_push b' 0 end (end + record_size e) (take i es) e' f (omega (arith, placed)) r (omega (arith, placed, same_size)) in
+        subst (λ x. laid b' 0 (end + record_size e) x ≡ true) (sym (take_more_set es i e' lt)) g
 
-    more-packed : take (end + record-size e) b' ≡ all-encoded (map stored-pair (map (pair-in b') (take (i + 1) (set es i e'))))
+    more_packed : take (end + record_size e) b' ≡ all_encoded (map stored_pair (map (pair_in b') (take (i + 1) (set es i e'))))
     unfolding before part
-    more-packed =
+    more_packed =
         let k = c.packed in
-        let n = part-encoded in
+        let n = part_encoded in
         front_bytes
         ∙ (λ j. k j ++ n j)
-        ∙ flat_map_more encoded [] (map stored-pair before) (record-in b e)
-        ∙ ap all-encoded (sym (map_push stored-pair before (pair-in b e)))
-        ∙ ap (λ x. all-encoded (map stored-pair x)) (sym moved-pairs)
+        ∙ flat_map_more encoded [] (map stored_pair before) (record_in b e)
+        ∙ ap all_encoded (sym (map_push stored_pair before (pair_in b e)))
+        ∙ ap (λ x. all_encoded (map stored_pair x)) (sym moved_pairs)
 
     same_length : length b' ≡ length b
-    same_length = ap length written ∙ length-overwritten b end (record-bytes b e) room
+    same_length = ap length written ∙ length_overwritten b end (record_bytes b e) room
 
-    later : (laid b' (end_of e) (length b) (drop (i + 1) es) ≡ true) × (map (pair-in b') (drop (i + 1) es) ≡ map (pair-in b) (drop (i + 1) es))
-    later = laid-same-rest b b' (end_of e) (length b) (drop (i + 1) es) next-head.rest rest-same
+    later : (laid b' (end_of e) (length b) (drop (i + 1) es) ≡ true) × (map (pair_in b') (drop (i + 1) es) ≡ map (pair_in b) (drop (i + 1) es))
+    later = laid_same_rest b b' (end_of e) (length b) (drop (i + 1) es) next_head.rest rest_same
 
-    more-rest : laid b' (end + record-size e) (length b') (drop (i + 1) (set es i e')) ≡ true
-    more-rest =
+    more_rest : laid b' (end + record_size e) (length b') (drop (i + 1) (set es i e')) ≡ true
+    more_rest =
         let t = turn in
-        let l = laid-lower b' (end_of e) (end + record-size e) (length b) (drop (i + 1) es) (omega (arith, t.down)) later.0 in
+        let l = laid_lower b' (end_of e) (end + record_size e) (length b) (drop (i + 1) es) (omega (arith, t.down)) later.0 in
         let d = drop-set-lt (i + 1) es i e' (omega arith) in
-        subst (λ x. laid b' (end + record-size e) (length b') x ≡ true) (sym d) (subst (λ n. laid b' (end + record-size e) n (drop (i + 1) es) ≡ true) (sym same_length) l)
+        subst (λ x. laid b' (end + record_size e) (length b') x ≡ true) (sym d) (subst (λ n. laid b' (end + record_size e) n (drop (i + 1) es) ≡ true) (sym same_length) l)
 
-    more-kept : map (pair-in b') (take (i + 1) (set es i e')) ++ map (pair-in b') (drop (i + 1) (set es i e')) ≡ map (pair-in b₀) es₀
+    more_kept : map (pair_in b') (take (i + 1) (set es i e')) ++ map (pair_in b') (drop (i + 1) (set es i e')) ≡ map (pair_in b₀) es₀
     unfolding before
-    more-kept =
-        let m = moved-pairs in
+    more_kept =
+        let m = moved_pairs in
         let l = later.1 in
         let d = drop-set-lt (i + 1) es i e' (omega arith) in
-        (λ j. m j ++ map (pair-in b') (d j))
-        ∙ ap (λ x. (before ++ (pair-in b e ∷ [])) ++ x) l
-        ∙ append_assoc before (pair-in b e ∷ []) (map (pair-in b) (drop (i + 1) es))
-        ∙ ap (λ x. before ++ map (pair-in b) x) (sym next-is)
+        (λ j. m j ++ map (pair_in b') (d j))
+        ∙ ap (λ x. (before ++ (pair_in b e ∷ [])) ++ x) l
+        ∙ append_assoc before (pair_in b e ∷ []) (map (pair_in b) (drop (i + 1) es))
+        ∙ ap (λ x. before ++ map (pair_in b) x) (sym next_is)
         ∙ c.kept
 
-    pub closing-more : Closing b₀ es₀ b' (set es i e') (i + 1) (end + record-size e)
-    closing-more =
+    pub closing_more : Closing b₀ es₀ b' (set es i e') (i + 1) (end + record_size e)
+    closing_more =
         let t = turn in
         record {
-          all-bytes = same_length ∙ c.all-bytes;
-          all-entries = length-set es i e' ∙ c.all-entries;
-          front = more-front;
-          packed = more-packed;
-          rest = more-rest;
-          kept = more-kept;
+          all_bytes = same_length ∙ c.all_bytes;
+          all_entries = length-set es i e' ∙ c.all_entries;
+          front = more_front;
+          packed = more_packed;
+          rest = more_rest;
+          kept = more_kept;
           small = omega (arith, c.small, t.most);
         }

@@ -1,7 +1,7 @@
 -- The index of a log: where the last record of each held name lies in the bytes.
 use Rattle.std.specs.Prelude.{◌≡◌, ℕ, suc, ◌+◌, ◌<◌, Bool, true, ◌&&◌, List, [], ◌∷◌, ◌++◌, map, length, take, drop, Some, None, Option, ◌≢◌, nat_le, slice_index_or}
 use Rattle.std.specs.Str.{bytes_eq}
-use Rattle.cloud.specs.Meaning.{longest-value}
+use Rattle.cloud.specs.Meaning.{longest_value}
 use Rattle.log_record.specs.Records.{Record, stored, encoded}
 use Rattle.cloud_log.specs.declared.name.Name.{Name}
 use Rattle.cloud_log.specs.declared.entry.Entry.{Entry}
@@ -13,30 +13,30 @@ abbrev pub name_of : Entry → List ℕ
 name_of e = bytes_of e.name
 
 -- how many bytes the entry's record takes up: three are lengths
-abbrev pub record-size : Entry → ℕ
-record-size e = length (name_of e) + e.size + 3
+abbrev pub record_size : Entry → ℕ
+record_size e = length (name_of e) + e.size + 3
 
 -- where the record ends
 abbrev pub end_of : Entry → ℕ
-end_of e = e.offset + record-size e
+end_of e = e.offset + record_size e
 
 -- the bytes of the record
-abbrev pub record-bytes : List ℕ → Entry → List ℕ
-record-bytes bytes e = take (record-size e) (drop e.offset bytes)
+abbrev pub record_bytes : List ℕ → Entry → List ℕ
+record_bytes bytes e = take (record_size e) (drop e.offset bytes)
 
 -- the value in it, past the lengths and the name
 abbrev pub value_in : List ℕ → Entry → List ℕ
-value_in bytes e = drop (length (name_of e) + 3) (record-bytes bytes e)
+value_in bytes e = drop (length (name_of e) + 3) (record_bytes bytes e)
 
-abbrev pub pair-in : List ℕ → Entry → List ℕ × List ℕ
-pair-in bytes e = (name_of e, value_in bytes e)
+abbrev pub pair_in : List ℕ → Entry → List ℕ × List ℕ
+pair_in bytes e = (name_of e, value_in bytes e)
 
-abbrev pub record-in : List ℕ → Entry → Record
-record-in bytes e = stored (name_of e) (value_in bytes e)
+abbrev pub record_in : List ℕ → Entry → Record
+record_in bytes e = stored (name_of e) (value_in bytes e)
 
 -- what stands where the entry says is such a record
 abbrev pub recorded : List ℕ → Entry → Bool
-recorded bytes e = bytes_eq (record-bytes bytes e) (encoded (record-in bytes e)) && nat_le e.size longest-value
+recorded bytes e = bytes_eq (record_bytes bytes e) (encoded (record_in bytes e)) && nat_le e.size longest_value
 
 -- The entries' records stand one after another, in the order of the entries, none before `low` or past `high`.
 unfoldable pub laid : List ℕ → ℕ → ℕ → List Entry → Bool

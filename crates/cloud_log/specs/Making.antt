@@ -2,14 +2,14 @@
 use Rattle.std.specs.Prelude.{◌≡◌, ℕ, ◌+◌, ◌*◌, Bool, true, false, ◌&&◌, [], Ok, Err, vec_len, vec_capacity, Result, nat_le}
 use Rattle.refusal.specs.declared.Refusal.TheVariants.{UnsupportedStorage}
 use Rattle.refusal.specs.declared.Rejected.{Rejected}
-use Rattle.log_record.specs.Records.{longest-record}
+use Rattle.log_record.specs.Records.{longest_record}
 use Rattle.cloud_log.specs.declared.memory.LogMemory.{LogMemory}
 use Rattle.cloud_log.specs.declared.log_cloud.LogCloud.{LogCloud}
-use Rattle.cloud_log.specs.Meaning.{log-meaning}
+use Rattle.cloud_log.specs.Meaning.{log_meaning}
 
 -- bytes for one longest record more than there are places, and an entry of the index for each place
 abbrev pub roomy : LogMemory → ℕ → Bool
-roomy memory places = nat_le ((places + 1) * longest-record) (vec_len memory.bytes) && nat_le places (vec_capacity memory.index)
+roomy memory places = nat_le ((places + 1) * longest_record) (vec_len memory.bytes) && nat_le places (vec_capacity memory.index)
 
 -- 1 to 32 places, and room for all of them
 abbrev pub supported : LogMemory → ℕ → Bool
@@ -19,6 +19,6 @@ supported memory places = nat_le 1 places && nat_le places 32 && roomy memory pl
 -- bytes that were handed in. Otherwise the memory comes back as it was.
 abbrev pub Made : LogMemory → ℕ → Result LogCloud (Rejected LogMemory) → Type 0
 Made memory places (Ok cloud) =
-    (supported memory places ≡ true) × (log-meaning cloud ≡ record { sound = true; held = []; free = places }) × (cloud.bytes ≡ memory.bytes)
+    (supported memory places ≡ true) × (log_meaning cloud ≡ record { sound = true; held = []; free = places }) × (cloud.bytes ≡ memory.bytes)
 Made memory places (Err rejected) =
     (supported memory places ≡ false) × (rejected.refusal ≡ UnsupportedStorage) × (rejected.given ≡ memory)

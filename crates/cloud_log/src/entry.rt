@@ -1,14 +1,14 @@
 //! An entry of the index, and the search among entries by name.
 
 ghost use Rattle.std.specs.Prelude.{◌≡◌, ◌≤◌, length};
-ghost use Rattle.bytes.specs.Order.{at_most, below};
-ghost use Rattle.cloud.specs.Meaning.{longest-value};
-ghost use Rattle.cloud_log.specs.Index.{name_of, record-size, end_of, value_in};
-ghost use Rattle.bytes.proofs.Order.{preorder-by, at-most-preorder};
+ghost use Rattle.byte_strings.specs.Order.{at_most, below};
+ghost use Rattle.cloud.specs.Meaning.{longest_value};
+ghost use Rattle.cloud_log.specs.Index.{name_of, record_size, end_of, value_in};
+ghost use Rattle.byte_strings.proofs.Order.{preorder_by, at_most_preorder};
 
 use crate::name::Name;
-use bytes::compare;
-use bytes::successor::{Bound, Ordered};
+use byte_strings::compare;
+use byte_strings::successor::{Bound, Ordered};
 use log_record::limits::LENGTHS;
 
 /// Where the last record of a held name lies: the record begins at the offset, and ends with the value.
@@ -22,8 +22,8 @@ pub struct Entry {
 impl Entry {
     /// How many bytes the record takes up.
     pub(crate) fn record_size(&self) -> usize
-        requires { self.now.size ≤ longest-value }
-        ensures { result ≡ record-size self.now }
+        requires { self.now.size ≤ longest_value }
+        ensures { result ≡ record_size self.now }
     {
         self.name.as_slice().len() + self.size + LENGTHS
     }
@@ -41,7 +41,7 @@ impl Entry {
 impl Ordered for Entry {
     ghost le = { λ x y. at_most (name_of x) (name_of y) };
 
-    ghost ordered = { preorder-by name_of at_most at-most-preorder };
+    ghost ordered = { preorder_by name_of at_most at_most_preorder };
 
     fn is_at_most(&self, other: &Entry) -> bool {
         compare::is_at_most(self.name.as_slice(), other.name.as_slice())

@@ -4,7 +4,7 @@ ghost use Rattle.std.specs.Prelude.{◌≡◌, ◌<◌, length, IfSome, vec_len,
 ghost use Rattle.cloud_log.specs.Index.{names, Placed, without};
 
 use crate::entry::Entry;
-use bytes::compare::is_same;
+use byte_strings::compare::is_same;
 
 // Where a name stands.
 pub(crate) fn position(index: &[Entry], name: &[u8]) -> Option<usize>

@@ -1,10 +1,10 @@
 //! The log cloud: bytes that hold its log, and an index of the held names.
 
 ghost use Rattle.std.specs.Prelude.{◌≡◌, ◌+◌, ◌*◌, ◌≤◌, true, map, take, vec_len, vec_capacity};
-ghost use Rattle.bytemap.specs.Map.{gathered, all-different};
-ghost use Rattle.log_record.specs.Records.{records-in, all-encoded, all_valid, longest-record};
+ghost use Rattle.bytemap.specs.Map.{gathered, all_different};
+ghost use Rattle.log_record.specs.Records.{records_in, all_encoded, all_valid, longest_record};
 ghost use Rattle.log_record.specs.Replay.{replayed};
-ghost use Rattle.cloud_log.specs.Index.{pair-in, laid};
+ghost use Rattle.cloud_log.specs.Index.{pair_in, laid};
 
 use crate::entry::Entry;
 
@@ -23,13 +23,13 @@ pub struct LogCloud {
     places: usize,
     ghost few: { (1 ≤ places) × (places ≤ 32) },
     // One record more than there are places fits.
-    ghost room: { (places + 1) * longest-record ≤ vec_len bytes },
+    ghost room: { (places + 1) * longest_record ≤ vec_len bytes },
     ghost reserved: { (vec_len index ≤ places) × (places ≤ vec_capacity index) },
     ghost within: { used ≤ vec_len bytes },
-    ghost encoded: { all-encoded (records-in (take used bytes.items)) ≡ take used bytes.items },
-    ghost valid: { all_valid (records-in (take used bytes.items)) ≡ true },
+    ghost encoded: { all_encoded (records_in (take used bytes.items)) ≡ take used bytes.items },
+    ghost valid: { all_valid (records_in (take used bytes.items)) ≡ true },
     ghost ordered: { laid bytes.items 0 used index.items ≡ true },
-    ghost different: { all-different (map (pair-in bytes.items) index.items) ≡ true },
+    ghost different: { all_different (map (pair_in bytes.items) index.items) ≡ true },
     // The index gives what the log reads back to.
-    ghost same: { replayed (take used bytes.items) ≡ gathered (map (pair-in bytes.items) index.items) },
+    ghost same: { replayed (take used bytes.items) ≡ gathered (map (pair_in bytes.items) index.items) },
 }

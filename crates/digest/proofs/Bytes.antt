@@ -6,9 +6,9 @@ use Rattle.std.proofs.lemmas.Slice.{drop-append-drop}
 use Rattle.std.proofs.lemmas.List.Edits.{sets, sets-eq}
 use Rattle.digest.specs.Words.{be4}
 
-pub length-bytes : (ws : List ℕ) → length (flat_map be4 ws) ≡ 4 * length ws
-length-bytes [] = refl
-length-bytes (w ∷ ws) = omega (arith, length-bytes ws)
+pub length_bytes : (ws : List ℕ) → length (flat_map be4 ws) ≡ 4 * length ws
+length_bytes [] = refl
+length_bytes (w ∷ ws) = omega (arith, length_bytes ws)
 
 -- each is a byte
 pub bytes_small : (ws : List ℕ) (k : ℕ) → get_or (flat_map be4 ws) k 0 < 256
@@ -29,16 +29,16 @@ four out n a b c d fits =
     rw (one, two, three) (sets-eq (a ∷ b ∷ c ∷ d ∷ []) out n fits)
 
 -- the first i words of ws are written over the first bytes of ys; a word more, given by its four bytes
-pub written-more : (ws ys out bs : List ℕ) (i : ℕ) → i < length ws → 4 * i + 4 ≤ length ys → bs ≡ be4 (get_or ws i 0) → out ≡ flat_map be4 (take i ws) ++ drop (4 * i) ys
+pub written_more : (ws ys out bs : List ℕ) (i : ℕ) → i < length ws → 4 * i + 4 ≤ length ys → bs ≡ be4 (get_or ws i 0) → out ≡ flat_map be4 (take i ws) ++ drop (4 * i) ys
     → set (set (set (set out (4 * i) (get_or bs 0 0)) (4 * i + 1) (get_or bs 1 0)) (4 * i + 2) (get_or bs 2 0)) (4 * i + 3) (get_or bs 3 0)
     ≡ flat_map be4 (take (i + 1) ws) ++ drop (4 * (i + 1)) ys
-written-more ws ys out bs i below fits word e =
+written_more ws ys out bs i below fits word e =
     let n = 4 * i in
     let w = get_or ws i 0 in
     let front = flat_map be4 (take i ws) in
     let le : i ≤ length ws = omega arith in
-    let long : length front ≡ n = length-bytes (take i ws) ∙ ap (λ k. 4 * k) (length-take-le i ws le) in
-    let out-long : length out ≡ length ys = ap length e ∙ simp (length-append, length-drop) (omega arith) in
+    let long : length front ≡ n = length_bytes (take i ws) ∙ ap (λ k. 4 * k) (length-take-le i ws le) in
+    let out_long : length out ≡ length ys = ap length e ∙ simp (length-append, length-drop) (omega arith) in
     let next : n + 4 ≡ 4 * (i + 1) = omega arith in
     let start : take n out ≡ front = ap (take n) e ∙ take_at front (drop n ys) n long in
     let end : drop (n + 4) out ≡ drop (4 * (i + 1)) ys = ap (drop (n + 4)) e ∙ drop-append-drop n ys front (n + 4) (omega arith) long ∙ ap (λ k. drop k ys) next in

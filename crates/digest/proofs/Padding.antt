@@ -7,15 +7,15 @@ use Rattle.std.proofs.lemmas.List.FromFn.{length-map-range_with_len, get_or-map-
 use Rattle.std.proofs.lemmas.List.Edits.{fill_by_more}
 use Rattle.std.proofs.lemmas.Bool.{cases_lt, cases_eq, cases_order}
 use Rattle.digest.specs.Words.{be4, word}
-use Rattle.digest.specs.Message.{be8, zeros, marked, padded, Padding-right, block}
+use Rattle.digest.specs.Message.{be8, zeros, marked, padded, PaddingRight, block}
 
-pub length-padded : (m : List ℕ) → length (padded m) ≡ 64 * (length m / 64 + (length m % 64 + 72) / 64)
+pub length_padded : (m : List ℕ) → length (padded m) ≡ 64 * (length m / 64 + (length m % 64 + 72) / 64)
 unfolding padded
-length-padded m = simp (length-append, length-replicate) (omega arith)
+length_padded m = simp (length-append, length-replicate) (omega arith)
 
-pub padding-right : (m : List ℕ) → Padding-right m
+pub padding_right : (m : List ℕ) → PaddingRight m
 unfolding padded
-padding-right m = record { begins = take_at m _ (length m) refl; whole = omega (arith, length-padded m); least = omega (arith, length-padded m) }
+padding_right m = record { begins = take_at m _ (length m) refl; whole = omega (arith, length_padded m); least = omega (arith, length_padded m) }
 
 -- the padded message is the marked one, zeros and the length
 parts : (m : List ℕ) → padded m ≡ (marked m ++ replicate (zeros (length m)) 0) ++ be8 (8 * length m)
@@ -29,13 +29,13 @@ module _ (m : List ℕ) where
   length_front : length front ≡ length m + 1 + zeros (length m)
   length_front = simp (length-append, length-replicate) refl
 
-  pub byte-whole : (k : ℕ) → k < length m → get_or m k 0 ≡ get_or (padded m) k 0
+  pub byte_whole : (k : ℕ) → k < length m → get_or m k 0 ≡ get_or (padded m) k 0
   unfolding padded
-  byte-whole k h = sym (get_or_append_left m _ 0 k h)
+  byte_whole k h = sym (get_or_append_left m _ 0 k h)
 
   -- before the length, a byte past the mark is 0
-  pub byte-marked : (k : ℕ) → k < length m + 1 + zeros (length m) → get_or (marked m) k 0 ≡ get_or (padded m) k 0
-  byte-marked k h =
+  pub byte_marked : (k : ℕ) → k < length m + 1 + zeros (length m) → get_or (marked m) k 0 ≡ get_or (padded m) k 0
+  byte_marked k h =
       let within : k < length front = omega (arith, length_front) in
       let long : length (marked m) ≡ length m + 1 = length-append m (128 ∷ []) in
       sym (ap (λ bs. get_or bs k 0) (parts m) ∙ get_or_append_left front _ 0 k within
@@ -43,13 +43,13 @@ module _ (m : List ℕ) where
         | inl low ↦ get_or_append_left (marked m) _ 0 k (omega arith)
         | inr high ↦
             let past : length (marked m) ≤ k = omega arith in
-            let zero-here : k - (length m + 1) < zeros (length m) = omega arith in
-            get_or-append_right (marked m) _ (length m + 1) k 0 long high ∙ get_or-replicate (zeros (length m)) (k - (length m + 1)) 0 0 zero-here ∙ sym (get_or_past (marked m) k 0 past)
+            let zero_here : k - (length m + 1) < zeros (length m) = omega arith in
+            get_or-append_right (marked m) _ (length m + 1) k 0 long high ∙ get_or-replicate (zeros (length m)) (k - (length m + 1)) 0 0 zero_here ∙ sym (get_or_past (marked m) k 0 past)
       ])
 
   -- the last eight bytes are the length
-  pub byte-length : (k : ℕ) → get_or (padded m) (length m + 1 + zeros (length m) + k) 0 ≡ get_or (be8 (8 * length m)) k 0
-  byte-length k = ap (λ n. get_or (padded m) (n + k) 0) (sym length_front) ∙ ap (λ bs. get_or bs (length front + k) 0) (parts m) ∙ get_or-append-add front _ k 0
+  pub byte_length : (k : ℕ) → get_or (padded m) (length m + 1 + zeros (length m) + k) 0 ≡ get_or (be8 (8 * length m)) k 0
+  byte_length k = ap (λ n. get_or (padded m) (n + k) 0) (sym length_front) ∙ ap (λ bs. get_or bs (length front + k) 0) (parts m) ∙ get_or-append-add front _ k 0
 
 -- words of the same bytes
 word_same : (xs ys : List ℕ) (i j : ℕ) → ((k : ℕ) → k < 4 → get_or xs (4 * i + k) 0 ≡ get_or ys (4 * j + k) 0) → word xs i ≡ word ys j
@@ -61,29 +61,29 @@ word_same xs ys i j same =
     cc
 
 -- four digits to the base 256
-word-digits : (x : ℕ) (rest : List ℕ) → word (be4 x ++ rest) 0 ≡ x % 2 ^ 32
-word-digits x rest = omega (arith, shr-shr x 8 8, shr-shr x 16 8, mod-pow-add x 8 24, mod-pow-add x 8 16, mod-pow-add x 8 8)
+word_digits : (x : ℕ) (rest : List ℕ) → word (be4 x ++ rest) 0 ≡ x % 2 ^ 32
+word_digits x rest = omega (arith, shr-shr x 8 8, shr-shr x 16 8, mod-pow-add x 8 24, mod-pow-add x 8 16, mod-pow-add x 8 8)
 
 -- the two words of a number in eight bytes
-pub word-high : (x : ℕ) → word (be8 x) 0 ≡ x % 2 ^ 64 / 2 ^ 32
-word-high x = word-digits (x / 2 ^ 32) (be4 x) ∙ omega arith
+pub word_high : (x : ℕ) → word (be8 x) 0 ≡ x % 2 ^ 64 / 2 ^ 32
+word_high x = word_digits (x / 2 ^ 32) (be4 x) ∙ omega arith
 
 pub word_low : (x : ℕ) → word (be8 x) 1 ≡ x % 2 ^ 64 % 2 ^ 32
-word_low x = word-digits x [] ∙ omega arith
+word_low x = word_digits x [] ∙ omega arith
 
 module _ (m : List ℕ) (j : ℕ) where
-  pub word-whole : 4 * j + 4 ≤ length m → word m j ≡ word (padded m) j
-  word-whole h = word_same m (padded m) j j (λ k low. byte-whole m (4 * j + k) (omega arith))
+  pub word_whole : 4 * j + 4 ≤ length m → word m j ≡ word (padded m) j
+  word_whole h = word_same m (padded m) j j (λ k low. byte_whole m (4 * j + k) (omega arith))
 
-  pub word-marked : 4 * j + 4 ≤ length m + 1 + zeros (length m) → word (marked m) j ≡ word (padded m) j
-  word-marked h = word_same (marked m) (padded m) j j (λ k low. byte-marked m (4 * j + k) (omega arith))
+  pub word_marked : 4 * j + 4 ≤ length m + 1 + zeros (length m) → word (marked m) j ≡ word (padded m) j
+  word_marked h = word_same (marked m) (padded m) j j (λ k low. byte_marked m (4 * j + k) (omega arith))
 
   -- a word of the message itself, and a word past the mark
-  pub word-unmarked : 4 * j + 4 ≤ length m → word m j ≡ word (marked m) j
-  word-unmarked h = word_same m (marked m) j j (λ k low. sym (get_or_append_left m _ 0 (4 * j + k) (omega arith)))
+  pub word_unmarked : 4 * j + 4 ≤ length m → word m j ≡ word (marked m) j
+  word_unmarked h = word_same m (marked m) j j (λ k low. sym (get_or_append_left m _ 0 (4 * j + k) (omega arith)))
 
-  pub word-past : length m + 1 ≤ 4 * j → word (marked m) j ≡ 0
-  word-past h = word_same (marked m) [] j 0 (λ k low. get_or_past (marked m) (4 * j + k) 0 (simp length-append (omega arith)))
+  pub word_past : length m + 1 ≤ 4 * j → word (marked m) j ≡ 0
+  word_past h = word_same (marked m) [] j 0 (λ k low. get_or_past (marked m) (4 * j + k) 0 (simp length-append (omega arith)))
 
   -- the word in which the message ends
   pub word_end : (rest : List ℕ) → rest ≡ drop (4 * j) m → 4 * j ≤ length m → word (marked rest) 0 ≡ word (marked m) j
@@ -91,15 +91,15 @@ module _ (m : List ℕ) (j : ℕ) where
       word_same (marked rest) (marked m) 0 j
       (λ k low. ap (λ bs. get_or (marked bs) (4 * 0 + k) 0) e ∙ ap (λ bs. get_or bs (4 * 0 + k) 0) (sym (drop-append-le (4 * j) m (128 ∷ []) h)) ∙ get_or-drop (4 * j) (marked m) (4 * 0 + k) 0 ∙ ap (λ n. get_or (marked m) (4 * j + n) 0) (zero-add k))
 
-  pub word-length : (half : ℕ) → 4 * j ≡ length m + 1 + zeros (length m) + 4 * half → word (padded m) j ≡ word (be8 (8 * length m)) half
-  word-length half e =
+  pub word_length : (half : ℕ) → 4 * j ≡ length m + 1 + zeros (length m) + 4 * half → word (padded m) j ≡ word (be8 (8 * length m)) half
+  word_length half e =
       word_same (padded m) (be8 (8 * length m)) j half
-      (λ k low. let at : 4 * j + k ≡ length m + 1 + zeros (length m) + (4 * half + k) = omega arith in ap (λ n. get_or (padded m) n 0) at ∙ byte-length m (4 * half + k))
+      (λ k low. let at : 4 * j + k ≡ length m + 1 + zeros (length m) + (4 * half + k) = omega arith in ap (λ n. get_or (padded m) n 0) at ∙ byte_length m (4 * half + k))
 
 -- sixteen words that are those of a block
-block-filled : (m : List ℕ) (i : ℕ) (ws : List ℕ) → length ws ≡ 16 → ((t : ℕ) → t < 16 → get_or ws t 0 ≡ word m (16 * i + t)) → ws ≡ block m i
+block_filled : (m : List ℕ) (i : ℕ) (ws : List ℕ) → length ws ≡ 16 → ((t : ℕ) → t < 16 → get_or ws t 0 ≡ word m (16 * i + t)) → ws ≡ block m i
 unfolding block
-block-filled m i ws long same = fill_by_all (λ t. word m (16 * i + t)) ws 16 0 long same
+block_filled m i ws long same = fill_by_all (λ t. word m (16 * i + t)) ws 16 0 long same
 
 -- sixteen words, of which the first t are those of m from the word `from` on, and the others are 0
 pub record Partly (m : List ℕ) (from : ℕ) (ws : List ℕ) (t : ℕ) : Type 0 where
@@ -124,43 +124,43 @@ partly_more m from ws t x p low e =
       rest = λ k high. let other : k ≢ t = omega arith in get_or-set_other ws t k x 0 other ∙ p.rest k (omega arith);
     }
 
-pub partly-all : (m : List ℕ) (i : ℕ) (ws : List ℕ) (t : ℕ) → t ≡ 16 → Partly m (16 * i) ws t → ws ≡ block m i
-partly-all m i ws t e p = block-filled m i ws p.long (λ k low. p.front k (omega arith))
+pub partly_all : (m : List ℕ) (i : ℕ) (ws : List ℕ) (t : ℕ) → t ≡ 16 → Partly m (16 * i) ws t → ws ≡ block m i
+partly_all m i ws t e p = block_filled m i ws p.long (λ k low. p.front k (omega arith))
 
 -- the block in which the message ends: its whole words, its end, and zeros
-pub partly-end : (m ws : List ℕ) (t x : ℕ) → t ≡ length m % 64 / 4 → Partly m (16 * (length m / 64)) ws t → x ≡ word (marked m) (16 * (length m / 64) + length m % 64 / 4)
+pub partly_end : (m ws : List ℕ) (t x : ℕ) → t ≡ length m % 64 / 4 → Partly m (16 * (length m / 64)) ws t → x ≡ word (marked m) (16 * (length m / 64) + length m % 64 / 4)
     → set ws (length m % 64 / 4) x ≡ block (marked m) (length m / 64)
-partly-end m ws t x whole_is p e =
+partly_end m ws t x whole_is p e =
     let i = length m / 64 in
     let whole = length m % 64 / 4 in
     let within : whole < length ws = omega (arith, p.long) in
-    block-filled (marked m) i (set ws whole x) (length-set ws whole x ∙ p.long)
+    block_filled (marked m) i (set ws whole x) (length-set ws whole x ∙ p.long)
     (λ k low. elim (cases_order k whole) [
       | inl at ↦ rw at (get_or-set_same ws whole x 0 within ∙ e)
       | inr (inl before) ↦
           let other : k ≢ whole = omega arith in
-          get_or-set_other ws whole k x 0 other ∙ p.front k (omega arith) ∙ word-unmarked m (16 * i + k) (omega arith)
+          get_or-set_other ws whole k x 0 other ∙ p.front k (omega arith) ∙ word_unmarked m (16 * i + k) (omega arith)
       | inr (inr after) ↦
           let other : k ≢ whole = omega arith in
-          get_or-set_other ws whole k x 0 other ∙ p.rest k (omega arith) ∙ sym (word-past m (16 * i + k) (omega arith))
+          get_or-set_other ws whole k x 0 other ∙ p.rest k (omega arith) ∙ sym (word_past m (16 * i + k) (omega arith))
     ])
 
 block_same : (xs ys : List ℕ) (i : ℕ) → ((t : ℕ) → t < 16 → word xs (16 * i + t) ≡ word ys (16 * i + t)) → block xs i ≡ block ys i
 unfolding block
-block_same xs ys i same = block-filled ys i (block xs i) refl (λ t low. get_or-map-range_with_len (λ t. word xs (16 * i + t)) 0 16 t t 0 low (zero-add t) ∙ same t low)
+block_same xs ys i same = block_filled ys i (block xs i) refl (λ t low. get_or-map-range_with_len (λ t. word xs (16 * i + t)) 0 16 t t 0 low (zero-add t) ∙ same t low)
 
 module _ (m : List ℕ) (i : ℕ) where
   -- a block that the message fills
-  pub block-whole : 64 * i + 64 ≤ length m → block m i ≡ block (padded m) i
-  block-whole h = block_same m (padded m) i (λ t low. word-whole m (16 * i + t) (omega arith))
+  pub block_whole : 64 * i + 64 ≤ length m → block m i ≡ block (padded m) i
+  block_whole h = block_same m (padded m) i (λ t low. word_whole m (16 * i + t) (omega arith))
 
   -- a block before the length
-  pub block-marked : 64 * i + 64 ≤ length m + 1 + zeros (length m) → block (marked m) i ≡ block (padded m) i
-  block-marked h = block_same (marked m) (padded m) i (λ t low. word-marked m (16 * i + t) (omega arith))
+  pub block_marked : 64 * i + 64 ≤ length m + 1 + zeros (length m) → block (marked m) i ≡ block (padded m) i
+  block_marked h = block_same (marked m) (padded m) i (λ t low. word_marked m (16 * i + t) (omega arith))
 
   -- a block past the mark
-  pub block-past : length m + 1 ≤ 64 * i → block (marked m) i ≡ replicate 16 0
-  block-past h = sym (block-filled (marked m) i (replicate 16 0) refl (λ t low. get_or-replicate 16 t 0 0 low ∙ sym (word-past m (16 * i + t) (omega arith))))
+  pub block_past : length m + 1 ≤ 64 * i → block (marked m) i ≡ replicate 16 0
+  block_past h = sym (block_filled (marked m) i (replicate 16 0) refl (λ t low. get_or-replicate 16 t 0 0 low ∙ sym (word_past m (16 * i + t) (omega arith))))
 
   -- the last block: the length stands in its last two words
   pub block_last : (ws : List ℕ) → ws ≡ block (marked m) i → 64 * i + 56 ≡ length m + 1 + zeros (length m)
@@ -172,12 +172,12 @@ module _ (m : List ℕ) (i : ℕ) where
       let marks = block (marked m) i in
       let wrote = set (set marks 14 high) 15 low in
       ap (λ xs. set (set xs 14 high) 15 low) e
-      ∙ block-filled (padded m) i wrote refl
+      ∙ block_filled (padded m) i wrote refl
       (λ t below. elim (cases_eq t 15) [
-        | inl at ↦ rw at (sym (word-length m (16 * i + 15) 1 (omega arith)))
+        | inl at ↦ rw at (sym (word_length m (16 * i + 15) 1 (omega arith)))
         | inr not_low ↦ get_or-set_other (set marks 14 high) 15 t low 0 not_low ∙ elim (cases_eq t 14) [
-          | inl at ↦ rw at (sym (word-length m (16 * i + 14) 0 (omega arith)))
-          | inr not-high ↦
-              get_or-set_other marks 14 t high 0 not-high ∙ get_or-map-range_with_len (λ t. word (marked m) (16 * i + t)) 0 16 t t 0 below (zero-add t) ∙ word-marked m (16 * i + t) (omega arith)
+          | inl at ↦ rw at (sym (word_length m (16 * i + 14) 0 (omega arith)))
+          | inr not_high ↦
+              get_or-set_other marks 14 t high 0 not_high ∙ get_or-map-range_with_len (λ t. word (marked m) (16 * i + t)) 0 16 t t 0 below (zero-add t) ∙ word_marked m (16 * i + t) (omega arith)
         ]
       ])

@@ -19,28 +19,28 @@ unfolding turned
 turned_on turn x from zero = rw add-zero
 turned_on turn x from (suc n) = rw add-suc (ap (λ y. turn y (from + n)) (turned_on turn x from n))
 
-pub turned-from : {X : Type 0} (turn : X → ℕ → X) (x : X) (from n : ℕ) {y z : X} → y ≡ turned turn x from → z ≡ turned (λ s t. turn s (from + t)) y n → z ≡ turned turn x (from + n)
-turned-from turn x from n before more = more ∙ ap (λ y. turned (λ s t. turn s (from + t)) y n) before ∙ turned_on turn x from n
+pub turned_from : {X : Type 0} (turn : X → ℕ → X) (x : X) (from n : ℕ) {y z : X} → y ≡ turned turn x from → z ≡ turned (λ s t. turn s (from + t)) y n → z ≡ turned turn x (from + n)
+turned_from turn x from n before more = more ∙ ap (λ y. turned (λ s t. turn s (from + t)) y n) before ∙ turned_on turn x from n
 
-pub length-grown : (next : List ℕ → ℕ → ℕ) (n : ℕ) → length (grown next n) ≡ n
+pub length_grown : (next : List ℕ → ℕ → ℕ) (n : ℕ) → length (grown next n) ≡ n
 unfolding grown
-length-grown next zero = refl
-length-grown next (suc n) = length_push (grown next n) (next (grown next n) n) ∙ rw add-one (ap suc (length-grown next n))
+length_grown next zero = refl
+length_grown next (suc n) = length_push (grown next n) (next (grown next n) n) ∙ rw add-one (ap suc (length_grown next n))
 
 -- the first words are those that grew first
-pub take-grown : (next : List ℕ → ℕ → ℕ) (t more : ℕ) → take t (grown next (t + more)) ≡ grown next t
+pub take_grown : (next : List ℕ → ℕ → ℕ) (t more : ℕ) → take t (grown next (t + more)) ≡ grown next t
 unfolding grown
-take-grown next t zero = rw add-zero (take_all t (grown next t) (omega (arith, length-grown next t)))
-take-grown next t (suc more) =
+take_grown next t zero = rw add-zero (take_all t (grown next t) (omega (arith, length_grown next t)))
+take_grown next t (suc more) =
     let ws = grown next (t + more) in
-    let fits : t ≤ length ws = omega (arith, length-grown next (t + more)) in
-    rw add-suc (take-append-le t ws (next ws (t + more) ∷ []) fits ∙ take-grown next t more)
+    let fits : t ≤ length ws = omega (arith, length_grown next (t + more)) in
+    rw add-suc (take-append-le t ws (next ws (t + more) ∷ []) fits ∙ take_grown next t more)
 
 -- the word t follows from those before it
-pub getD-grown : (next : List ℕ → ℕ → ℕ) (t more : ℕ) → get_or (grown next (t + 1 + more)) t 0 ≡ next (grown next t) t
+pub getD_grown : (next : List ℕ → ℕ → ℕ) (t more : ℕ) → get_or (grown next (t + 1 + more)) t 0 ≡ next (grown next t) t
 unfolding grown
-getD-grown next t more =
+getD_grown next t more =
     let n = t + 1 + more in
     let below : t < t + 1 = omega arith in
-    sym (get_or-take (t + 1) (grown next n) t 0 below) ∙ ap (λ ws. get_or ws t 0) (take-grown next (t + 1) more)
-    ∙ rw add-one (get_or_at (grown next t) (next (grown next t) t) [] 0 t (length-grown next t))
+    sym (get_or-take (t + 1) (grown next n) t 0 below) ∙ ap (λ ws. get_or ws t 0) (take_grown next (t + 1) more)
+    ∙ rw add-one (get_or_at (grown next t) (next (grown next t) t) [] 0 t (length_grown next t))

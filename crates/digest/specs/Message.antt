@@ -1,4 +1,4 @@
--- The padding of a message of bytes, its blocks of sixteen words, and the digest, which SHA-1 and SHA-256 share, as FIPS 180-4 defines them.
+-- The padding of a message of bytes, its blocks of sixteen words, and the digest, which SHA1 and SHA256 share, as FIPS 180-4 defines them.
 use Rattle.std.specs.Prelude.{◌≡◌, ℕ, ◌+◌, ◌-◌, ◌*◌, ◌/◌, ◌%◌, ◌^◌, ◌<◌, List, [], ◌∷◌, ◌++◌, map, length, take, replicate}
 use Rattle.std.specs.List.{range_with_len, flat_map}
 use Rattle.digest.specs.Words.{be4, word}
@@ -23,7 +23,7 @@ padded m = m ++ (128 ∷ (replicate (zeros (length m)) 0 ++ be8 (8 * length m)))
 
 -- The padding is right: the padded message begins with the message, has whole blocks of 64 bytes, and not one block
 -- more than the message, the mark and the length need.
-pub record Padding-right (m : List ℕ) : Type 0 where
+pub record PaddingRight (m : List ℕ) : Type 0 where
   pub begins : take (length m) (padded m) ≡ m
   pub whole : length (padded m) % 64 ≡ 0
   pub least : length (padded m) < length m + 1 + 8 + 64
@@ -38,5 +38,5 @@ chained initial compressed m n = turned (λ h i. compressed h (block m i)) initi
 
 -- The digest: the bytes of the hash value after all blocks of the padded message, from the initial hash value and by
 -- a digest's own compression of a block into a hash value.
-unfoldable pub digest-of : List ℕ → (List ℕ → List ℕ → List ℕ) → List ℕ → List ℕ
-digest-of initial compressed m = flat_map be4 (chained initial compressed (padded m) (length (padded m) / 64))
+unfoldable pub digest_of : List ℕ → (List ℕ → List ℕ → List ℕ) → List ℕ → List ℕ
+digest_of initial compressed m = flat_map be4 (chained initial compressed (padded m) (length (padded m) / 64))

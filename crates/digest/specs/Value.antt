@@ -4,14 +4,14 @@ use Rattle.digest.specs.declared.value.Digest.{Digest}
 use Rattle.digest.specs.declared.value.Digest.TheVariants.{Short, Long}
 
 -- its bytes
-abbrev pub digest-bytes : Digest → List ℕ
-digest-bytes (Short bs) = bs
-digest-bytes (Long bs) = bs
+abbrev pub digest_bytes : Digest → List ℕ
+digest_bytes (Short bs) = bs
+digest_bytes (Long bs) = bs
 
 -- whether a digest can have these bytes: 20 or 32 of them
-abbrev pub is-digest : List ℕ → Bool
-is-digest bs = length bs == 20 || length bs == 32
+abbrev pub is_digest : List ℕ → Bool
+is_digest bs = length bs == 20 || length bs == 32
 
 -- the bytes themselves, if a digest can have them
-abbrev pub as-digest : List ℕ → Option (List ℕ)
-as-digest bs = cond (is-digest bs) (Some bs) None
+abbrev pub as_digest : List ℕ → Option (List ℕ)
+as_digest bs = cond (is_digest bs) (Some bs) None

@@ -3,7 +3,7 @@ ghost use Rattle.std.specs.Prelude.{◌≡◌, ℕ, ◌+◌, ◌*◌, ◌/◌, �
 ghost use Rattle.std.specs.List.{flat_map};
 ghost use Rattle.digest.specs.Words.{be4};
 ghost use Rattle.digest.specs.Rounds.{turned};
-ghost use Rattle.digest.specs.Message.{padded, Padding-right, block, digest-of};
+ghost use Rattle.digest.specs.Message.{padded, PaddingRight, block, digest_of};
 
 use super::blocks::{end_block, put_length, whole_block};
 
@@ -65,8 +65,8 @@ fn write_words(words: &[u32], out: &mut [u8; 32])
 
 /// Writes the digest of `value`, of any length, over the first bytes of `out`; the others stay.
 pub fn digest_into<C: Compression + Drop>(value: &[u8], out: &mut [u8; 32])
-    ensures value { out.new ≡ digest-of initial compressed value.now ++ drop (4 * size) out.old }
-    ensures padding { Padding-right value.now }
+    ensures value { out.new ≡ digest_of initial compressed value.now ++ drop (4 * size) out.old }
+    ensures padding { PaddingRight value.now }
 {
     let mut state = C::start();
     for i in 0..value.len() / 64 {

@@ -1,7 +1,7 @@
 //! A digest as it is kept beside a value.
 ghost use Rattle.std.specs.Prelude.{◌≡◌, ℕ, true, List, Decides};
 ghost use Rattle.std.specs.Option.{option_map};
-ghost use Rattle.digest.specs.Value.{digest-bytes, is-digest, as-digest};
+ghost use Rattle.digest.specs.Value.{digest_bytes, is_digest, as_digest};
 
 use super::kind::DigestKind;
 
@@ -15,8 +15,8 @@ pub enum Digest {
 impl Digest {
     /// The bytes of the digest, 20 or 32 of them.
     pub fn as_bytes(&self) -> &[u8]
-        ensures value { result.now ≡ digest-bytes self.now }
-        ensures width { is-digest result.now ≡ true }
+        ensures value { result.now ≡ digest_bytes self.now }
+        ensures width { is_digest result.now ≡ true }
     {
         match self {
             Digest::Short(bytes) => bytes,
@@ -26,7 +26,7 @@ impl Digest {
 
     /// The digest with these bytes, if there are 20 or 32 of them.
     pub fn from_bytes(bytes: &[u8]) -> Option<Digest>
-        ensures { option_map digest-bytes result ≡ as-digest bytes.now }
+        ensures { option_map digest_bytes result ≡ as_digest bytes.now }
     {
         if bytes.len() == 20 {
             let mut short = [0; 20];
@@ -43,7 +43,7 @@ impl Digest {
 
     /// The digest of `value`.
     pub fn of<K: DigestKind>(value: &[u8]) -> Digest
-        ensures { digest-bytes result ≡ digested value.now }
+        ensures { digest_bytes result ≡ digested value.now }
     {
         let mut out = [0; 32];
         K::digest(value, &mut out);
@@ -55,7 +55,7 @@ impl Digest {
 
     /// Whether this is the digest of `value`. A digest of another width is not.
     pub fn matches<K: DigestKind>(&self, value: &[u8]) -> bool
-        ensures { Decides result (digest-bytes self.now ≡ digested value.now) }
+        ensures { Decides result (digest_bytes self.now ≡ digested value.now) }
     {
         let mut out = [0; 32];
         K::digest(value, &mut out);

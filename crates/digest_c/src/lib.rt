@@ -1,9 +1,9 @@
 //! The digests as functions for C. A slice passes as a pointer and a length.
 ghost use Rattle.std.specs.Prelude.{◌≡◌};
-ghost use Rattle.sha1.specs.Sha1.{sha1 as sha1-digest};
+ghost use Rattle.sha1_digest.specs.Sha1.{sha1 as sha1-digest};
 ghost use Rattle.sha256.specs.Sha256.{sha256 as sha256-digest};
 
-use sha1::sha1;
+use sha1_digest::sha1;
 use sha256::sha256;
 
 /// Writes the SHA-1 digest of `value` into `out`.

@@ -1,18 +1,18 @@
 //! Bytes as hexadecimal text.
 ghost use Rattle.std.specs.Prelude.{◌≡◌, ℕ, ◌<◌, Decides};
-ghost use Rattle.digest_cases.specs.Hex.{digit-code, hex-text};
+ghost use Rattle.digest_cases.specs.Hex.{digit_code, hex_text};
 
 /// The code of a digit below 16.
 fn digit(n: u8) -> u8
     requires { n < 16 }
-    ensures { result ≡ digit-code n }
+    ensures { result ≡ digit_code n }
 {
     if n < 10 { b'0' + n } else { b'a' - 10 + n }
 }
 
 /// Whether `text` is that of `bytes`, two digits for each.
 pub(crate) fn is_hex(bytes: &[u8], text: &[u8]) -> bool
-    ensures { Decides result (text.now ≡ hex-text bytes.now) }
+    ensures { Decides result (text.now ≡ hex_text bytes.now) }
 {
     match (bytes, text) {
         ([], []) => true,

@@ -2,7 +2,7 @@
 use super::hex::is_hex;
 use super::pattern::fill;
 use digest::value::Digest;
-use sha1::sha1;
+use sha1_digest::sha1;
 use sha256::sha256;
 use std::process::Abort;
 use std::test::Fail;
@@ -147,7 +147,7 @@ fn widths(rt: HostRuntime) {
 
 #[test]
 fn matching(rt: HostRuntime) {
-    let short = Digest::of::<sha1::kind::Sha1>(b"abc");
+    let short = Digest::of::<sha1_digest::kind::Sha1>(b"abc");
     let long = Digest::of::<sha256::kind::Sha256>(b"abc");
     assert!(rt;
         is_hex(
@@ -161,10 +161,10 @@ fn matching(rt: HostRuntime) {
             b"ba7816bf8f01cfea414140de5dae2223b00361a396177a9cb410ff61f20015ad",
         )
     );
-    assert!(rt; short.matches::<sha1::kind::Sha1>(b"abc"));
+    assert!(rt; short.matches::<sha1_digest::kind::Sha1>(b"abc"));
     assert!(rt; long.matches::<sha256::kind::Sha256>(b"abc"));
-    assert!(rt; !short.matches::<sha1::kind::Sha1>(b"abd"));
+    assert!(rt; !short.matches::<sha1_digest::kind::Sha1>(b"abd"));
     assert!(rt; !long.matches::<sha256::kind::Sha256>(b"ab"));
     assert!(rt; !short.matches::<sha256::kind::Sha256>(b"abc"));
-    assert!(rt; !long.matches::<sha1::kind::Sha1>(b"abc"));
+    assert!(rt; !long.matches::<sha1_digest::kind::Sha1>(b"abc"));
 }

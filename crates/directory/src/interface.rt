@@ -2,10 +2,10 @@
 
 ghost use Rattle.std.specs.Prelude.{◌≡◌, length};
 ghost use Rattle.std.specs.Option.{option_map};
-ghost use Rattle.naming.specs.Keys.{key-bytes};
+ghost use Rattle.naming.specs.Keys.{key_bytes};
 ghost use Rattle.entry.specs.Entries.{entry_value};
-ghost use Rattle.directory.specs.Meaning.{DirectoryMeaning, Within-limits};
-ghost use Rattle.directory.specs.Calls.{commit-after, commit-answer, entry_of, key-after, place-with};
+ghost use Rattle.directory.specs.Meaning.{DirectoryMeaning, WithinLimits};
+ghost use Rattle.directory.specs.Calls.{commit_after, commit_answer, entry_of, key_after, place_with};
 
 use entry::entry::Entry;
 use naming::key::Key;
@@ -27,19 +27,19 @@ pub trait Directory {
 
     /// The key's entry. (By `&mut`, so that a layer may remember what was looked up.)
     fn look(&mut self, container: u8, key: &Key) -> Option<Entry>
-        ensures value { option_map entry_value result ≡ entry_of (meaning self.old) container (key-bytes key.now) }
+        ensures value { option_map entry_value result ≡ entry_of (meaning self.old) container (key_bytes key.now) }
         ensures same { meaning self.new ≡ meaning self.old };
 
     /// Sets the key's entry, where its stamp is above that of the present one and there is a place.
     fn commit(&mut self, container: u8, key: &Key, entry: &Entry) -> CommitAnswer
-        ensures value { result ≡ commit-answer (meaning self.old) container (key-bytes key.now) (entry_value entry.now) }
-        ensures after { meaning self.new ≡ commit-after (meaning self.old) container (key-bytes key.now) (entry_value entry.now) };
+        ensures value { result ≡ commit_answer (meaning self.old) container (key_bytes key.now) (entry_value entry.now) }
+        ensures after { meaning self.new ≡ commit_after (meaning self.old) container (key_bytes key.now) (entry_value entry.now) };
 
     /// Writes the container's smallest key above the given bytes to the front of the place, and answers its length.
     fn next(&mut self, container: u8, above: &[u8], place: &mut [u8; 32]) -> Option<usize>
-        ensures value { result ≡ option_map length (key-after (meaning self.old) container above.now) }
-        ensures written { place.new ≡ place-with (key-after (meaning self.old) container above.now) place.old }
+        ensures value { result ≡ option_map length (key_after (meaning self.old) container above.now) }
+        ensures written { place.new ≡ place_with (key_after (meaning self.old) container above.now) place.old }
         ensures same { meaning self.new ≡ meaning self.old };
 
-    ghost limited: { (s : Self) → Within-limits (meaning s) };
+    ghost limited: { (s : Self) → WithinLimits (meaning s) };
 }

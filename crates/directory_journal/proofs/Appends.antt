@@ -19,16 +19,16 @@ module _ (bytes : List ℕ) (used : ℕ) (r : RecordValue) (within : used ≤ le
   part_length : length part ≡ length bytes - used
   part_length = length-take-le (length bytes - used) (drop used bytes) (omega (arith, length-drop used bytes))
 
-  pub not-appended : (out : List ℕ) → Written part r None out → Appended bytes used r None (written_behind out)
-  not-appended out w =
+  pub not_appended : (out : List ℕ) → Written part r None out → Appended bytes used r None (written_behind out)
+  not_appended out w =
       ⊎_elim (λ (h : has_room part r ≡ true). absurd (let e : None ≡ Some (length (encode r)) = rw h at w.len in grind arith))
       (λ (h : has_room part r ≡ false).
       let e : out ≡ part = rw h at w.after in
       (omega (arith, part_length, leb-false (length (encode r)) (length part) h), ap written_behind e ∙ put_same used (length bytes - used) bytes))
       (cases_Bool (has_room part r))
 
-  pub is-appended : (n : ℕ) (out : List ℕ) → Written part r (Some n) out → Appended bytes used r (Some (used + n)) (written_behind out)
-  is-appended n out w =
+  pub is_appended : (n : ℕ) (out : List ℕ) → Written part r (Some n) out → Appended bytes used r (Some (used + n)) (written_behind out)
+  is_appended n out w =
       ⊎_elim
       (λ (h : has_room part r ≡ true).
       let s : Some n ≡ Some (length (encode r)) = rw h at w.len in

@@ -2,35 +2,35 @@
 use Rattle.std.proofs.Common.{◌≡◌, ℕ, ◌+◌, ◌-◌, ◌<◌, ◌≤◌, true, List, length, Some, None, Option, sym, refl, ap, ◌∙◌, arith}
 use Rattle.std.proofs.lemmas.List.{length-map}
 use Rattle.bytemap.specs.Map.{insert, gathered, Ascending}
-use Rattle.bytemap.proofs.Pairs.{length-insert, length-insert-again, length-gathered}
+use Rattle.bytemap.proofs.Pairs.{length_insert, length_insert_again, length_gathered}
 use Rattle.entry.specs.Entries.{EntryValue}
 use Rattle.directory.specs.declared.interface.CommitAnswer.{CommitAnswer}
 use Rattle.directory.specs.declared.interface.CommitAnswer.TheVariants.{Committed, Older, Full}
 use Rattle.directory.specs.Meaning.{DirectoryMeaning, address}
-use Rattle.directory.specs.Calls.{entry_of, commit-answer, commit-after, when-committed, free-after}
+use Rattle.directory.specs.Calls.{entry_of, commit_answer, commit_after, when_committed, free_after}
 use Rattle.directory_table.specs.declared.table.Table.{Table}
 use Rattle.directory_table.specs.Entries.{pair, pairs}
-use Rattle.directory_table.specs.Making.{table-entries, table-meaning}
+use Rattle.directory_table.specs.Making.{table_entries, table_meaning}
 use Rattle.directory_table.specs.DifferentLemmas.{distinct_from}
-use Rattle.directory_table.proofs.Outcomes.{room-for-new}
+use Rattle.directory_table.proofs.Outcomes.{room_for_new}
 use Rattle.directory_journal.specs.Capacity.{capacity}
 
 module _ (m : DirectoryMeaning) (ascending : Ascending m.entries) (c : ℕ) (k : List ℕ) (e : EntryValue) where
-  by-entry : (o : Option EntryValue) → entry_of m c k ≡ o → (a : CommitAnswer) → commit-answer m c k e ≡ a → capacity (when-committed a m c k e) ≡ capacity m
-  unfolding commit-answer
-  by-entry o is Older answer = refl
-  by-entry o is Full answer = refl
-  by-entry None is Committed answer =
-      let room = room-for-new m.free e (rw is at answer) in
-      rw is (omega (arith, length-insert m.entries (address c k) e is))
-  by-entry (Some old) is Committed answer =
-      rw is (ap (λ n. n + m.free) (length-insert-again m.entries (address c k) e old ascending is))
+  by_entry : (o : Option EntryValue) → entry_of m c k ≡ o → (a : CommitAnswer) → commit_answer m c k e ≡ a → capacity (when_committed a m c k e) ≡ capacity m
+  unfolding commit_answer
+  by_entry o is Older answer = refl
+  by_entry o is Full answer = refl
+  by_entry None is Committed answer =
+      let room = room_for_new m.free e (rw is at answer) in
+      rw is (omega (arith, length_insert m.entries (address c k) e is))
+  by_entry (Some old) is Committed answer =
+      rw is (ap (λ n. n + m.free) (length_insert_again m.entries (address c k) e old ascending is))
 
-  pub capacity-kept : capacity (commit-after m c k e) ≡ capacity m
-  unfolding commit-after
-  capacity-kept = by-entry (entry_of m c k) refl (commit-answer m c k e) refl
+  pub capacity_kept : capacity (commit_after m c k e) ≡ capacity m
+  unfolding commit_after
+  capacity_kept = by_entry (entry_of m c k) refl (commit_answer m c k e) refl
 
 -- that of a table are its places
-pub table-capacity : (t : Table) → capacity (table-meaning t) ≡ t.places
-table-capacity t =
-    omega (arith, t.used, t.entries.ok.0, length-gathered (pairs (table-entries t)) (distinct_from (pairs (table-entries t)) t.distinct), length-map (table-entries t) pair)
+pub table_capacity : (t : Table) → capacity (table_meaning t) ≡ t.places
+table_capacity t =
+    omega (arith, t.used, t.entries.ok.0, length_gathered (pairs (table_entries t)) (distinct_from (pairs (table_entries t)) t.distinct), length-map (table_entries t) pair)

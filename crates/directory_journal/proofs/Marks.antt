@@ -7,8 +7,8 @@ mark_set n [] h = absurd (omega arith)
 mark_set zero (x ∷ xs) h = refl
 mark_set (suc n) (x ∷ xs) h = mark_set n xs (omega arith)
 
-pub mark-none : (n : ℕ) (xs : List ℕ) → length xs ≤ n → ended (drop n xs) ≡ true
-mark-none zero [] h = refl
-mark-none zero (x ∷ xs) h = absurd (omega arith)
-mark-none (suc n) [] h = refl
-mark-none (suc n) (x ∷ xs) h = mark-none n xs (omega arith)
+pub mark_none : (n : ℕ) (xs : List ℕ) → length xs ≤ n → ended (drop n xs) ≡ true
+mark_none zero [] h = refl
+mark_none zero (x ∷ xs) h = absurd (omega arith)
+mark_none (suc n) [] h = refl
+mark_none (suc n) (x ∷ xs) h = mark_none n xs (omega arith)

@@ -3,39 +3,39 @@ use Rattle.std.proofs.Common.{◌≡◌, ℕ, suc, ◌+◌, ◌*◌, ◌<◌, �
 use Rattle.std.proofs.lemmas.List.{map_push}
 use Rattle.directory_table.specs.declared.keyed_entry.KeyedEntry.{KeyedEntry}
 use Rattle.journal_record.specs.Records.{RecordValue}
-use Rattle.journal_record.specs.Layout.{encode, longest-record}
+use Rattle.journal_record.specs.Layout.{encode, longest_record}
 use Rattle.journal_record.proofs.Lengths.{length_most}
-use Rattle.directory_journal.specs.Records.{record_of, records-of, all-encoded, Appended}
-use Rattle.directory_journal.proofs.InTurn.{record-is-valid}
+use Rattle.directory_journal.specs.Records.{record_of, records_of, all_encoded, Appended}
+use Rattle.directory_journal.proofs.InTurn.{record_is_valid}
 
-all-encoded-push : (rs : List RecordValue) (r : RecordValue) → all-encoded (rs ++ r ∷ []) ≡ all-encoded rs ++ encode r
-unfolding all-encoded
-all-encoded-push [] r = append-nil (encode r)
-all-encoded-push (s ∷ rs) r = ap (λ xs. encode s ++ xs) (all-encoded-push rs r) ∙ sym (append_assoc (encode s) (all-encoded rs) (encode r))
+all_encoded_push : (rs : List RecordValue) (r : RecordValue) → all_encoded (rs ++ r ∷ []) ≡ all_encoded rs ++ encode r
+unfolding all_encoded
+all_encoded_push [] r = append-nil (encode r)
+all_encoded_push (s ∷ rs) r = ap (λ xs. encode s ++ xs) (all_encoded_push rs r) ∙ sym (append_assoc (encode s) (all_encoded rs) (encode r))
 
-pub none_yet : [] ≡ all-encoded []
-unfolding all-encoded
+pub none_yet : [] ≡ all_encoded []
+unfolding all_encoded
 none_yet = refl
 
 module _ (entries : List KeyedEntry) (i : ℕ) (item : KeyedEntry) (here : item ≡ get_or entries i item) (within : i < length entries) (r : RecordValue) (is : r ≡ record_of item)
-    (bytes : List ℕ) (end : ℕ) (so_far : take end bytes ≡ all-encoded (records-of (take i entries))) (low : end ≤ i * longest-record) (room : length entries * longest-record ≤ length bytes) where
-  short : length (encode r) ≤ longest-record
-  short = subst (λ q. length (encode q) ≤ longest-record) (sym is) (length_most (record_of item) (record-is-valid item))
+    (bytes : List ℕ) (end : ℕ) (so_far : take end bytes ≡ all_encoded (records_of (take i entries))) (low : end ≤ i * longest_record) (room : length entries * longest_record ≤ length bytes) where
+  short : length (encode r) ≤ longest_record
+  short = subst (λ q. length (encode q) ≤ longest_record) (sym is) (length_most (record_of item) (record_is_valid item))
 
-  one_more : all-encoded (records-of (take (i + 1) entries)) ≡ all-encoded (records-of (take i entries)) ++ encode r
+  one_more : all_encoded (records_of (take (i + 1) entries)) ≡ all_encoded (records_of (take i entries)) ++ encode r
   one_more =
       let n : i + 1 ≡ suc i = omega arith in
-      ap (λ k. all-encoded (records-of (take k entries))) n
-      ∙ ap (λ xs. all-encoded (records-of xs)) (take-suc entries i item within)
-      ∙ ap (λ x. all-encoded (records-of (take i entries ++ x ∷ []))) (sym here)
-      ∙ ap all-encoded (map_push record_of (take i entries) item)
-      ∙ all-encoded-push (records-of (take i entries)) (record_of item)
-      ∙ ap (λ q. all-encoded (records-of (take i entries)) ++ encode q) (sym is)
+      ap (λ k. all_encoded (records_of (take k entries))) n
+      ∙ ap (λ xs. all_encoded (records_of xs)) (take-suc entries i item within)
+      ∙ ap (λ x. all_encoded (records_of (take i entries ++ x ∷ []))) (sym here)
+      ∙ ap all_encoded (map_push record_of (take i entries) item)
+      ∙ all_encoded_push (records_of (take i entries)) (record_of item)
+      ∙ ap (λ q. all_encoded (records_of (take i entries)) ++ encode q) (sym is)
 
-  pub entry-written : (next : ℕ) (bytes' : List ℕ) → Appended bytes end r (Some next) bytes'
-      → (take next bytes' ≡ all-encoded (records-of (take (i + 1) entries))) × (next ≤ (i + 1) * longest-record)
-  entry-written next bytes' a =
+  pub entry_written : (next : ℕ) (bytes' : List ℕ) → Appended bytes end r (Some next) bytes'
+      → (take next bytes' ≡ all_encoded (records_of (take (i + 1) entries))) × (next ≤ (i + 1) * longest_record)
+  entry_written next bytes' a =
       (a.2 ∙ ap (λ xs. xs ++ encode r) so_far ∙ sym one_more, omega (arith, short, low, a.0))
 
-  pub entry-fits : (bytes' : List ℕ) → Appended bytes end r None bytes' → ⊥
-  entry-fits bytes' a = omega (arith, short, low, room, a.0)
+  pub entry_fits : (bytes' : List ℕ) → Appended bytes end r None bytes' → ⊥
+  entry_fits bytes' a = omega (arith, short, low, room, a.0)

@@ -1,8 +1,8 @@
 //! The journal.
 
 ghost use Rattle.std.specs.Prelude.{◌≡◌, ◌+◌, ◌*◌, ◌≤◌, true, vec_len};
-ghost use Rattle.directory_table.specs.Making.{table-meaning};
-ghost use Rattle.journal_record.specs.Layout.{longest-record};
+ghost use Rattle.directory_table.specs.Making.{table_meaning};
+ghost use Rattle.journal_record.specs.Layout.{longest_record};
 ghost use Rattle.directory_journal.specs.Capacity.{capacity};
 ghost use Rattle.directory_journal.specs.Replay.{replay};
 ghost use Rattle.directory_journal.specs.Same.{says};
@@ -20,7 +20,7 @@ pub struct Journal {
     used: usize,
     index: Table,
     // A record for each place, and one more, always fit.
-    ghost room: { (capacity (table-meaning index) + 1) * longest-record ≤ vec_len bytes },
+    ghost room: { (capacity (table_meaning index) + 1) * longest_record ≤ vec_len bytes },
     ghost within: { used ≤ vec_len bytes },
-    ghost replays: { says (replay (capacity (table-meaning index)) bytes.items) (table-meaning index) used ≡ true },
+    ghost replays: { says (replay (capacity (table_meaning index)) bytes.items) (table_meaning index) used ≡ true },
 }

@@ -1,9 +1,9 @@
 //! Storing records in the bytes of a journal.
 
 ghost use Rattle.std.specs.Prelude.{◌≡◌, ◌*◌, ◌≤◌, true, length, take, drop};
-ghost use Rattle.journal_record.specs.Records.{record-value};
-ghost use Rattle.journal_record.specs.Layout.{longest-record};
-ghost use Rattle.directory_journal.specs.Records.{all-encoded, Appended, record_of, records-of, Stored};
+ghost use Rattle.journal_record.specs.Records.{record_value};
+ghost use Rattle.journal_record.specs.Layout.{longest_record};
+ghost use Rattle.directory_journal.specs.Records.{all_encoded, Appended, record_of, records_of, Stored};
 ghost use Rattle.directory_journal.specs.Replay.{ended};
 
 use directory_table::keyed_entry::KeyedEntry;
@@ -14,8 +14,8 @@ use journal_record::record::Record;
 // there before is read as a record.
 pub(crate) fn store(bytes: &mut [u8], used: usize, added: &Record, entries: &[KeyedEntry]) -> usize
     requires within { used ≤ length bytes.old }
-    requires room { length entries.now * longest-record ≤ length bytes.old }
-    ensures { Stored bytes.old used (record-value added.now) (records-of entries.now) result bytes.new }
+    requires room { length entries.now * longest_record ≤ length bytes.old }
+    ensures { Stored bytes.old used (record_value added.now) (records_of entries.now) result bytes.new }
 {
     let end = match append(bytes, used, added) {
         Some(end) => end,
@@ -28,7 +28,7 @@ pub(crate) fn store(bytes: &mut [u8], used: usize, added: &Record, entries: &[Ke
 // Writes the record behind the first `used` bytes, where there is room, and answers where it ends.
 fn append(bytes: &mut [u8], used: usize, added: &Record) -> Option<usize>
     requires { used ≤ length bytes.old }
-    ensures { Appended bytes.old used (record-value added.now) result bytes.new }
+    ensures { Appended bytes.old used (record_value added.now) result bytes.new }
 {
     let len = added.write(&mut bytes[used..])?;
     Some(used + len)
@@ -36,8 +36,8 @@ fn append(bytes: &mut [u8], used: usize, added: &Record) -> Option<usize>
 
 // Writes the entries from the start, and answers where they end.
 fn rewrite(bytes: &mut [u8], entries: &[KeyedEntry]) -> usize
-    requires { length entries.now * longest-record ≤ length bytes.old }
-    ensures records { take result bytes.new ≡ all-encoded (records-of entries.now) }
+    requires { length entries.now * longest_record ≤ length bytes.old }
+    ensures records { take result bytes.new ≡ all_encoded (records_of entries.now) }
     ensures within { result ≤ length bytes.old }
     ensures size { length bytes.new ≡ length bytes.old }
 {
@@ -51,7 +51,7 @@ fn rewrite(bytes: &mut [u8], entries: &[KeyedEntry]) -> usize
 }
 
 fn to_record(item: &KeyedEntry) -> Record
-    ensures { record-value result ≡ record_of item.now }
+    ensures { record_value result ≡ record_of item.now }
 {
     Record::new(item.container(), item.key(), item.entry())
 }

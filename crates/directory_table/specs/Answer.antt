@@ -1,10 +1,10 @@
 -- What a commit answers, by the entry that the key has.
 use Rattle.std.specs.Prelude.{ℕ, cond, Option}
-use Rattle.naming.specs.Stamps.{stamp-below}
+use Rattle.naming.specs.Stamps.{stamp_below}
 use Rattle.entry.specs.Entries.{EntryValue}
 use Rattle.directory.specs.declared.interface.CommitAnswer.{CommitAnswer}
 use Rattle.directory.specs.declared.interface.CommitAnswer.TheVariants.{Older}
-use Rattle.directory.specs.Calls.{stamp-of, place-answer}
+use Rattle.directory.specs.Calls.{stamp_of, place_answer}
 
-abbrev pub answer-of : Option EntryValue → ℕ → EntryValue → CommitAnswer
-answer-of present free e = cond (stamp-below (stamp-of present) e.stamp) (place-answer present free) Older
+abbrev pub answer_of : Option EntryValue → ℕ → EntryValue → CommitAnswer
+answer_of present free e = cond (stamp_below (stamp_of present) e.stamp) (place_answer present free) Older

@@ -3,6 +3,6 @@ use Rattle.std.specs.Prelude.{ℕ, Bool, true, not, ◌&&◌, List, [], ◌∷�
 use Rattle.bytemap.specs.Map.{find}
 
 -- no key stands twice
-abbrev pub all-different : {V : Type 0} → List (List ℕ × V) → Bool
-all-different [] = true
-all-different (p ∷ ps) = not (is_some (find ps p.0)) && all-different ps
+abbrev pub all_different : {V : Type 0} → List (List ℕ × V) → Bool
+all_different [] = true
+all_different (p ∷ ps) = not (is_some (find ps p.0)) && all_different ps

@@ -6,17 +6,17 @@ use Rattle.refusal.specs.declared.Rejected.{Rejected}
 use Rattle.directory.specs.Meaning.{DirectoryMeaning}
 use Rattle.directory_table.specs.declared.keyed_entry.KeyedEntry.{KeyedEntry}
 use Rattle.directory_table.specs.declared.table.Table.{Table}
-use Rattle.directory_table.specs.Entries.{meaning-of}
+use Rattle.directory_table.specs.Entries.{meaning_of}
 
-abbrev pub table-entries : Table → List KeyedEntry
-table-entries t = vec_items t.entries
+abbrev pub table_entries : Table → List KeyedEntry
+table_entries t = vec_items t.entries
 
 -- the memory that the table was made of
-abbrev pub table-memory : Table → Vec KeyedEntry Global
-table-memory t = t.entries
+abbrev pub table_memory : Table → Vec KeyedEntry Global
+table_memory t = t.entries
 
-abbrev pub table-meaning : Table → DirectoryMeaning
-table-meaning t = meaning-of (table-entries t) t.places
+abbrev pub table_meaning : Table → DirectoryMeaning
+table_meaning t = meaning_of (table_entries t) t.places
 
 -- 1 to 64 places, and room for all of them
 abbrev pub supported : ℕ → ℕ → Bool
@@ -26,7 +26,7 @@ supported places room = nat_le 1 places && nat_le places 64 && nat_le places roo
 -- Otherwise the memory comes back as it was.
 abbrev pub Made : Vec KeyedEntry Global → ℕ → Result Table (Rejected (Vec KeyedEntry Global)) → Type 0
 Made memory places (Ok table) =
-    (supported places (vec_capacity memory) ≡ true) × (table-meaning table ≡ record { entries = []; free = places })
-    × (vec_capacity (table-memory table) ≡ vec_capacity memory)
+    (supported places (vec_capacity memory) ≡ true) × (table_meaning table ≡ record { entries = []; free = places })
+    × (vec_capacity (table_memory table) ≡ vec_capacity memory)
 Made memory places (Err rejected) =
     (supported places (vec_capacity memory) ≡ false) × (rejected.refusal ≡ UnsupportedStorage) × (rejected.given ≡ memory)

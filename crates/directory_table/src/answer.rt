@@ -3,9 +3,9 @@
 ghost use Rattle.std.specs.Prelude.{◌≡◌};
 ghost use Rattle.std.specs.Option.{option_map};
 ghost use Rattle.entry.specs.Entries.{entry_value};
-ghost use Rattle.naming.specs.Stamps.{stamp-value};
-ghost use Rattle.directory.specs.Calls.{stamp-of};
-ghost use Rattle.directory_table.specs.Answer.{answer-of};
+ghost use Rattle.naming.specs.Stamps.{stamp_value};
+ghost use Rattle.directory.specs.Calls.{stamp_of};
+ghost use Rattle.directory_table.specs.Answer.{answer_of};
 
 use directory::interface::CommitAnswer;
 use entry::entry::Entry;
@@ -13,7 +13,7 @@ use naming::stamp::Stamp;
 
 // The answer where the key has the present entry, or none, and so many places are free.
 pub(crate) fn commit_answer(present: Option<Entry>, free: usize, entry: &Entry) -> CommitAnswer
-    ensures { result ≡ answer-of (option_map entry_value present) free (entry_value entry.now) }
+    ensures { result ≡ answer_of (option_map entry_value present) free (entry_value entry.now) }
 {
     if !last_stamp(present).is_below(&entry.stamp()) {
         return CommitAnswer::Older;
@@ -26,7 +26,7 @@ pub(crate) fn commit_answer(present: Option<Entry>, free: usize, entry: &Entry) 
 
 // The stamp that a new one must be above.
 fn last_stamp(present: Option<Entry>) -> Stamp
-    ensures { stamp-value result ≡ stamp-of (option_map entry_value present) }
+    ensures { stamp_value result ≡ stamp_of (option_map entry_value present) }
 {
     match present {
         Some(last) => last.stamp(),

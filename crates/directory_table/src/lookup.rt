@@ -1,16 +1,16 @@
 //! Searches through entries: for a key, and for the smallest key above given bytes.
 
-ghost use Rattle.naming.specs.Keys.{key-bytes};
-ghost use Rattle.directory_table.specs.Entries.{Index-of, Index-after};
+ghost use Rattle.naming.specs.Keys.{key_bytes};
+ghost use Rattle.directory_table.specs.Entries.{IndexOf, IndexAfter};
 
 use crate::keyed_entry::KeyedEntry;
-use bytes::successor::successor;
+use byte_strings::successor::successor;
 use naming::key::Key;
 use naming_next::container_key::KeyBound;
 
 // The index of the entry of this key.
 pub(crate) fn index_of(entries: &[KeyedEntry], container: u8, key: &Key) -> Option<usize>
-    ensures { Index-of entries.now container (key-bytes key.now) result }
+    ensures { IndexOf entries.now container (key_bytes key.now) result }
 {
     for (i, item) in entries.iter().enumerate() {
         if item.is_of(container, key) {
@@ -22,7 +22,7 @@ pub(crate) fn index_of(entries: &[KeyedEntry], container: u8, key: &Key) -> Opti
 
 // The index of the entry of the container's smallest key above these bytes.
 pub(crate) fn index_after(entries: &[KeyedEntry], container: u8, above: &[u8]) -> Option<usize>
-    ensures { Index-after entries.now container above.now result }
+    ensures { IndexAfter entries.now container above.now result }
 {
     let bound = KeyBound {
         container,

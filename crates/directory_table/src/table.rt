@@ -1,7 +1,7 @@
 //! The table.
 
 ghost use Rattle.std.specs.Prelude.{◌≡◌, ◌≤◌, true, vec_len, vec_capacity};
-ghost use Rattle.directory_table.specs.Different.{all-different};
+ghost use Rattle.directory_table.specs.Different.{all_different};
 ghost use Rattle.directory_table.specs.Entries.{pairs};
 
 use crate::keyed_entry::KeyedEntry;
@@ -15,7 +15,7 @@ mod reading;
 pub struct Table {
     entries: Vec<KeyedEntry>,
     places: usize,
-    ghost distinct: { all-different (pairs entries.items) ≡ true },
+    ghost distinct: { all_different (pairs entries.items) ≡ true },
     ghost used: { vec_len entries ≤ places },
     ghost reserved: { places ≤ vec_capacity entries },
     ghost some: { 1 ≤ places },

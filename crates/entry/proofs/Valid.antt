@@ -3,23 +3,23 @@ use Rattle.std.proofs.Common.{◌≡◌, true, IfSome, Some, None, Option, arith
 use Rattle.std.specs.Option.{option_map}
 use Rattle.std.proofs.lemmas.Bool.{and_from, le-leb}
 use Rattle.naming.specs.declared.stamp.Stamp.{Stamp}
-use Rattle.naming.specs.Stamps.{Valid-stamp, stamp-value}
+use Rattle.naming.specs.Stamps.{ValidStamp, stamp_value}
 use Rattle.entry.specs.declared.live.Live.{Live}
 use Rattle.entry.specs.declared.entry.Entry.{Entry}
-use Rattle.entry.specs.Entries.{Valid-entry, entry_value, live-value, valid-live}
+use Rattle.entry.specs.Entries.{ValidEntry, entry_value, live_value, valid_live}
 
-pub live-is-valid : (l : Live) → valid-live (live-value l) ≡ true
-live-is-valid l =
+pub live_is_valid : (l : Live) → valid_live (live_value l) ≡ true
+live_is_valid l =
     and_from _ _ (and_from _ _ (and_from _ _ (le-leb 1 l.clouds l.listed) (le-leb l.clouds 127 l.few)) (le-leb l.size 1024 l.sized)) l.wide
 
-pub entry-is-valid : (e : Entry) → Valid-entry (entry_value e)
-entry-is-valid e =
+pub entry_is_valid : (e : Entry) → ValidEntry (entry_value e)
+entry_is_valid e =
     record {
-      stamp-known = record { sequence-fits = e.stamp.fits; writer-known = e.stamp.known };
+      stamp_known = record { sequence_fits = e.stamp.fits; writer_known = e.stamp.known };
       stamped = and_from _ _ (le-leb 1 e.stamp.sequence e.numbered) (le-leb 1 e.stamp.writer e.written);
-      live-fits = valid-if-live e.live;
+      live_fits = valid_if_live e.live;
     }
   where
-    valid-if-live : (o : Option Live) → IfSome (option_map live-value o) (λ l. valid-live l ≡ true)
-    valid-if-live None = tt
-    valid-if-live (Some l) = live-is-valid l
+    valid_if_live : (o : Option Live) → IfSome (option_map live_value o) (λ l. valid_live l ≡ true)
+    valid_if_live None = tt
+    valid_if_live (Some l) = live_is_valid l

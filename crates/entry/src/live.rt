@@ -1,8 +1,8 @@
 //! What an entry says of a value that is there.
 
 ghost use Rattle.std.specs.Prelude.{◌≡◌, ◌≤◌, true};
-ghost use Rattle.digest.specs.Value.{digest-bytes};
-ghost use Rattle.entry.specs.Bytes.{digest-fits};
+ghost use Rattle.digest.specs.Value.{digest_bytes};
+ghost use Rattle.entry.specs.Bytes.{digest_fits};
 
 use digest::value::Digest;
 
@@ -18,5 +18,5 @@ pub struct Live {
     ghost listed: { 1 ≤ clouds },
     ghost few: { clouds ≤ 127 },
     ghost sized: { size ≤ 1024 },
-    ghost wide: { digest-fits (digest-bytes digest) ≡ true },
+    ghost wide: { digest_fits (digest_bytes digest) ≡ true },
 }

@@ -53,7 +53,7 @@ fn run(rt: &HostRuntime) -> io::Result<bool> {
     };
     let Options { sha1, names } = options;
     if sha1 {
-        print_lines::<sha1::kind::Sha1>(rt, names.as_slice())
+        print_lines::<sha1_digest::kind::Sha1>(rt, names.as_slice())
     } else {
         print_lines::<sha256::kind::Sha256>(rt, names.as_slice())
     }

@@ -4,44 +4,44 @@ use native.Mathlib.Decide.{ℕ_discrete}
 use Rattle.std.specs.Str.{bytes_eq}
 use Rattle.std.proofs.lemmas.Bool.{cases_Bool, and_parts, leb-true, eq-eqb, ne_eqb, eqb-true, eqb-false, both_ways}
 use Rattle.bytemap.specs.Map.{find, insert, Ascending}
-use Rattle.bytemap.proofs.Find.{find-insert, same-is, ascending-insert}
-use Rattle.naming.specs.Stamps.{StampValue, stamp-below, next-stamp}
-use Rattle.naming.proofs.Stamps.{stamp-below-irreflexive, stamp-below-transitive, below-next-stamp}
+use Rattle.bytemap.proofs.Find.{find_insert, same_is, ascending_insert}
+use Rattle.naming.specs.Stamps.{StampValue, stamp_below, next_stamp}
+use Rattle.naming.proofs.Stamps.{stamp_below_irreflexive, stamp_below_transitive, below_next_stamp}
 use Rattle.entry.specs.Entries.{EntryValue, LiveValue, lists}
 use Rattle.cloud.specs.Meaning.{CloudMeaning}
-use Rattle.row.specs.Rows.{no-cloud}
+use Rattle.row.specs.Rows.{no_cloud}
 use Rattle.directory.specs.Meaning.{DirectoryMeaning, address}
-use Rattle.directory.specs.Calls.{entry_of, stamp-of}
+use Rattle.directory.specs.Calls.{entry_of, stamp_of}
 use Rattle.protocol.specs.Slots.{SlotValue, SavingValue, FetchingValue, SweepingValue, idle, saving, fetching, sweeping}
-use Rattle.protocol.specs.State.{Setting, State, valid-party, slot_of, with-slot, with-clouds, with-directory}
-use Rattle.protocol.specs.Grounds.{saved-entry}
-use Rattle.protocol.specs.Steps.{begun, acknowledged, new-stamp, deleted-entry}
-use Rattle.history.specs.Deeds.{Deed, History, nothing, began, stores, commits-save, deletes, looks-first, looks_on, completes, ends, latest, or_else, when, begins, Change, saved, erased, same_key, saved-at, commits, stored_at, asks, looks, runs}
+use Rattle.protocol.specs.State.{Setting, State, valid_party, slot_of, with_slot, with_clouds, with_directory}
+use Rattle.protocol.specs.Grounds.{saved_entry}
+use Rattle.protocol.specs.Steps.{begun, acknowledged, new_stamp, deleted_entry}
+use Rattle.history.specs.Deeds.{Deed, History, nothing, began, stores, commits_save, deletes, looks_first, looks_on, completes, ends, latest, or_else, when, begins, Change, saved, erased, same_key, saved_at, commits, stored_at, asks, looks, runs}
 use Rattle.naming.specs.Names.{name_of}
-use Rattle.naming.proofs.Names.{names-are-distinct}
-use Rattle.history.proofs.Clouds.{keeps_self, Keeps, Keeps-one, Any-name, Other-than, Not-below}
-use Rattle.history.proofs.Sets.{with-cloud-is, none-listed}
-use Rattle.history.proofs.Effects.{Effect, quiet, asked, began-one, stored_one, committed-one, passed, deleted-one, looked, looked-on, completed, ended, began-sweeping, swept-one, fetch, save-name}
-use Rattle.history.proofs.Invariant.{Fits, Entry-ok, View, view, Not-by, same_view, Holds, Listed-ok, Saving-ok, Fetching-ok, Sweeping-ok, Slot-ok, Inv, Rises, Keeps-name, slot-on}
-use Rattle.bytemap.proofs.Find.{find-empty}
-use Rattle.history.specs.Promises.{Run, start, then, Opened-empty}
+use Rattle.naming.proofs.Names.{names_are_distinct}
+use Rattle.history.proofs.Clouds.{keeps_self, Keeps, KeepsOne, AnyName, OtherThan, NotBelow}
+use Rattle.history.proofs.Sets.{with_cloud_is, none_listed}
+use Rattle.history.proofs.Effects.{Effect, quiet, asked, began_one, stored_one, committed_one, passed, deleted_one, looked, looked_on, completed, ended, began_sweeping, swept_one, fetch, save_name}
+use Rattle.history.proofs.Invariant.{Fits, EntryOk, View, view, NotBy, same_view, Holds, ListedOk, SavingOk, FetchingOk, SweepingOk, SlotOk, Inv, Rises, KeepsName, slot_on}
+use Rattle.bytemap.proofs.Find.{find_empty}
+use Rattle.history.specs.Promises.{Run, start, then, OpenedEmpty}
 use Rattle.history.proofs.Stepped.{effect_of}
 use Rattle.history.proofs.Kept.{kept}
 
-all-idle : (n j : ℕ) → get_or (replicate n idle) j idle ≡ idle
-all-idle zero j = refl
-all-idle (suc n) zero = refl
-all-idle (suc n) (suc j) = all-idle n j
+all_idle : (n j : ℕ) → get_or (replicate n idle) j idle ≡ idle
+all_idle zero j = refl
+all_idle (suc n) zero = refl
+all_idle (suc n) (suc j) = all_idle n j
 
-never-ran : (p : ℕ) → latest (runs p) [] ≡ Some true → ⊥
-never-ran p e = grind arith
+never_ran : (p : ℕ) → latest (runs p) [] ≡ Some true → ⊥
+never_ran p e = grind arith
 
-pub at-opening : {S : Setting} {s : State} → Opened-empty S s → Inv S s.clouds [] s
-at-opening {S} {s} o = record {
+pub at_opening : {S : Setting} {s : State} → OpenedEmpty S s → Inv S s.clouds [] s
+at_opening {S} {s} o = record {
   sixteen = ap length o.idles;
-  slots = λ j. subst (λ (y : SlotValue). Slot-ok S s.clouds s.directory s.clouds (view (suc j) []) (suc j) y)
-      (sym (ap (λ (ys : List SlotValue). get_or ys j idle) o.idles ∙ all-idle 16 j)) (never-ran (suc j));
-  entries = λ c k. subst (λ (e : Option EntryValue). Entry-ok S e None) (sym (ap (λ m. find m (address c k)) o.empty ∙ find-empty (address c k))) tt;
+  slots = λ j. subst (λ (y : SlotValue). SlotOk S s.clouds s.directory s.clouds (view (suc j) []) (suc j) y)
+      (sym (ap (λ (ys : List SlotValue). get_or ys j idle) o.idles ∙ all_idle 16 j)) (never_ran (suc j));
+  entries = λ c k. subst (λ (e : Option EntryValue). EntryOk S e None) (sym (ap (λ m. find m (address c k)) o.empty ∙ find_empty (address c k))) tt;
   ascending = subst (λ m. Ascending m) (sym o.empty) tt;
   counted = o.counted;
   sounds = λ i t. t;

@@ -4,48 +4,48 @@ use native.Mathlib.Decide.{ℕ_discrete}
 use Rattle.std.specs.Str.{bytes_eq}
 use Rattle.std.proofs.lemmas.Bool.{cases_Bool, and_parts, leb-true, eq-eqb, ne_eqb, eqb-true, eqb-false, both_ways}
 use Rattle.bytemap.specs.Map.{find, insert, Ascending}
-use Rattle.bytemap.proofs.Find.{find-insert, same-is, ascending-insert}
-use Rattle.naming.specs.Stamps.{StampValue, stamp-below, next-stamp}
-use Rattle.naming.proofs.Stamps.{stamp-below-irreflexive, stamp-below-transitive, below-next-stamp}
+use Rattle.bytemap.proofs.Find.{find_insert, same_is, ascending_insert}
+use Rattle.naming.specs.Stamps.{StampValue, stamp_below, next_stamp}
+use Rattle.naming.proofs.Stamps.{stamp_below_irreflexive, stamp_below_transitive, below_next_stamp}
 use Rattle.entry.specs.Entries.{EntryValue, LiveValue, lists}
 use Rattle.cloud.specs.Meaning.{CloudMeaning}
-use Rattle.row.specs.Rows.{no-cloud}
+use Rattle.row.specs.Rows.{no_cloud}
 use Rattle.directory.specs.Meaning.{DirectoryMeaning, address}
-use Rattle.directory.specs.Calls.{entry_of, stamp-of}
+use Rattle.directory.specs.Calls.{entry_of, stamp_of}
 use Rattle.protocol.specs.Slots.{SlotValue, SavingValue, FetchingValue, SweepingValue, idle, saving, fetching, sweeping}
-use Rattle.protocol.specs.State.{Setting, State, valid-party, slot_of, with-slot, with-clouds, with-directory}
-use Rattle.protocol.specs.Grounds.{saved-entry}
-use Rattle.protocol.specs.Steps.{begun, acknowledged, new-stamp, deleted-entry}
-use Rattle.history.specs.Deeds.{Deed, History, nothing, began, stores, commits-save, deletes, looks-first, looks_on, completes, ends, latest, or_else, when, begins, Change, saved, erased, same_key, saved-at, commits, stored_at, asks, looks, runs}
+use Rattle.protocol.specs.State.{Setting, State, valid_party, slot_of, with_slot, with_clouds, with_directory}
+use Rattle.protocol.specs.Grounds.{saved_entry}
+use Rattle.protocol.specs.Steps.{begun, acknowledged, new_stamp, deleted_entry}
+use Rattle.history.specs.Deeds.{Deed, History, nothing, began, stores, commits_save, deletes, looks_first, looks_on, completes, ends, latest, or_else, when, begins, Change, saved, erased, same_key, saved_at, commits, stored_at, asks, looks, runs}
 use Rattle.naming.specs.Names.{name_of}
-use Rattle.naming.proofs.Names.{names-are-distinct}
-use Rattle.history.proofs.Clouds.{keeps_self, Keeps, Keeps-one, Any-name, Other-than, Not-below}
-use Rattle.history.proofs.Sets.{with-cloud-is, none-listed}
-use Rattle.history.proofs.Effects.{Effect, quiet, asked, began-one, stored_one, committed-one, passed, deleted-one, looked, looked-on, completed, ended, began-sweeping, swept-one, fetch, save-name}
-use Rattle.history.specs.Promises.{Is-some, Some-in, None-in, Run, start, then, Different, At-most-unsound, Can-be-fetched}
-use Rattle.history.proofs.Sets.{chosen_is, listed-differ, listed-count}
-use Rattle.history.proofs.Kept.{eqb-self, entry_set, own, set-slots, kept}
+use Rattle.naming.proofs.Names.{names_are_distinct}
+use Rattle.history.proofs.Clouds.{keeps_self, Keeps, KeepsOne, AnyName, OtherThan, NotBelow}
+use Rattle.history.proofs.Sets.{with_cloud_is, none_listed}
+use Rattle.history.proofs.Effects.{Effect, quiet, asked, began_one, stored_one, committed_one, passed, deleted_one, looked, looked_on, completed, ended, began_sweeping, swept_one, fetch, save_name}
+use Rattle.history.specs.Promises.{IsSome, SomeIn, NoneIn, Run, start, then, Different, AtMostUnsound, CanBeFetched}
+use Rattle.history.proofs.Sets.{chosen_is, listed_differ, listed_count}
+use Rattle.history.proofs.Kept.{eqb_self, entry_set, own, set_slots, kept}
 use Rattle.history.proofs.Always.{goes_on}
 use Rattle.history.proofs.Stepped.{effect_of}
-use Rattle.history.proofs.Invariant.{Fits, Entry-ok, View, view, Not-by, same_view, Holds, Listed-ok, Saving-ok, Fetching-ok, Sweeping-ok, Slot-ok, Inv, Rises, Keeps-name, slot-on}
+use Rattle.history.proofs.Invariant.{Fits, EntryOk, View, view, NotBy, same_view, Holds, ListedOk, SavingOk, FetchingOk, SweepingOk, SlotOk, Inv, Rises, KeepsName, slot_on}
 
 -- ---- a save that stands
 
-abbrev pub saved-live : SavingValue → LiveValue
-saved-live x = record { clouds = x.stored; size = x.size; digest = x.digest }
+abbrev pub saved_live : SavingValue → LiveValue
+saved_live x = record { clouds = x.stored; size = x.size; digest = x.digest }
 
 -- a fetch of the save's key that has looked since remembers the save
 abbrev pub Same : SavingValue → Type 0 → SlotValue → Type 0
 Same x T idle = Unit {0}
 Same x T (saving y) = Unit {0}
-Same x T (fetching y) = T → y.container ≡ x.container → y.key ≡ x.key → (y.stamp ≡ x.stamp) × (y.live ≡ saved-live x)
+Same x T (fetching y) = T → y.container ≡ x.container → y.key ≡ x.key → (y.stamp ≡ x.stamp) × (y.live ≡ saved_live x)
 Same x T (sweeping y) = Unit {0}
 
-same-fewer : (x : SavingValue) {T T' : Type 0} (y : SlotValue) → (T' → T) → Same x T y → Same x T' y
-same-fewer x idle f o = tt
-same-fewer x (saving y) f o = tt
-same-fewer x (fetching y) f o = λ t. o (f t)
-same-fewer x (sweeping y) f o = tt
+same_fewer : (x : SavingValue) {T T' : Type 0} (y : SlotValue) → (T' → T) → Same x T y → Same x T' y
+same_fewer x idle f o = tt
+same_fewer x (saving y) f o = tt
+same_fewer x (fetching y) f o = λ t. o (f t)
+same_fewer x (sweeping y) f o = tt
 
 pub same_none : (x : SavingValue) (y : SlotValue) → Same x ⊥ y
 same_none x idle = tt
@@ -55,133 +55,133 @@ same_none x (sweeping y) = tt
 
 -- The save x is its key's entry, and the cloud i holds it; L says which parties have looked since.
 pub record Track (S : Setting) (x : SavingValue) (i : ℕ) (L : ℕ → Type 0) (w : State) : Type 0 where
-  pub stands : entry_of w.directory x.container x.key ≡ Some (saved-entry x)
-  pub sound : (get_or w.clouds i no-cloud).sound ≡ true
-  pub holds : Holds S (get_or w.clouds i no-cloud) (save-name x) x.size x.digest
+  pub stands : entry_of w.directory x.container x.key ≡ Some (saved_entry x)
+  pub sound : (get_or w.clouds i no_cloud).sound ≡ true
+  pub holds : Holds S (get_or w.clouds i no_cloud) (save_name x) x.size x.digest
   pub fetches : (j : ℕ) → Same x (L (suc j)) (get_or w.slots j idle)
 
-not-looked : (q : ℕ) (D : Deed) (h : History) → Not-by q D → Is-some (looks q D h) → ⊥
-not-looked q nothing h n s = s
-not-looked q (began p c k v) h n s = s
-not-looked q (stores p i v) h n s = s
-not-looked q (commits-save p) h n s = s
-not-looked q (deletes p c k) h n s = s
-not-looked q (looks-first p c k) h n s = rw n at s
-not-looked q (looks_on p) h n s = rw n at s
-not-looked q (completes p i v) h n s = s
-not-looked q (ends p) h n s = s
+not_looked : (q : ℕ) (D : Deed) (h : History) → NotBy q D → IsSome (looks q D h) → ⊥
+not_looked q nothing h n s = s
+not_looked q (began p c k v) h n s = s
+not_looked q (stores p i v) h n s = s
+not_looked q (commits_save p) h n s = s
+not_looked q (deletes p c k) h n s = s
+not_looked q (looks_first p c k) h n s = rw n at s
+not_looked q (looks_on p) h n s = rw n at s
+not_looked q (completes p i v) h n s = s
+not_looked q (ends p) h n s = s
 
-when-none : {A : Type 0} (b : Bool) (a : A) → when b a ≡ None → b ≡ false
-when-none true a e = absurd (grind arith)
-when-none false a e = refl
+when_none : {A : Type 0} (b : Bool) (a : A) → when b a ≡ None → b ≡ false
+when_none true a e = absurd (grind arith)
+when_none false a e = refl
 
 module _ (S : Setting) (ms₀ : List CloudMeaning) (h : History) (w : State) (inv : Inv S ms₀ h w) (x : SavingValue) (i : ℕ) (L : ℕ → Type 0) (t : Track S x i L w) where
   Since : Deed → ℕ → Type 0
-  Since D q = Is-some (looks q D h) ⊎ L q
+  Since D q = IsSome (looks q D h) ⊎ L q
 
-  not-since : (D : Deed) (q : ℕ) → (Is-some (looks q D h) → ⊥) → Since D q → L q
+  not_since : (D : Deed) (q : ℕ) → (IsSome (looks q D h) → ⊥) → Since D q → L q
   unfolding Since
-  not-since D q n s = ⊎_elim (λ (a : Is-some (looks q D h)). absurd (n a)) (λ (b : L q). b) s
+  not_since D q n s = ⊎_elim (λ (a : IsSome (looks q D h)). absurd (n a)) (λ (b : L q). b) s
 
   -- the slots of parties that the deed does not concern
-  same-others : (D : Deed) (j : ℕ) → Not-by (suc j) D → Same x (Since D (suc j)) (get_or w.slots j idle)
-  same-others D j nb = same-fewer x (get_or w.slots j idle) (not-since D (suc j) (not-looked (suc j) D h nb)) (t.fetches j)
+  same_others : (D : Deed) (j : ℕ) → NotBy (suc j) D → Same x (Since D (suc j)) (get_or w.slots j idle)
+  same_others D j nb = same_fewer x (get_or w.slots j idle) (not_since D (suc j) (not_looked (suc j) D h nb)) (t.fetches j)
 
-  same_set : (D : Deed) (p : ℕ) (y : SlotValue) → valid-party p ≡ true → ((j : ℕ) → eqb p (suc j) ≡ false → Not-by (suc j) D) → Same x (Since D p) y
+  same_set : (D : Deed) (p : ℕ) (y : SlotValue) → valid_party p ≡ true → ((j : ℕ) → eqb p (suc j) ≡ false → NotBy (suc j) D) → Same x (Since D p) y
       → (j : ℕ) → Same x (Since D (suc j)) (get_or (set w.slots (p - 1) y) j idle)
-  same_set D p y valid nb mine = set-slots S ms₀ h w inv (λ q z. Same x (Since D q) z) p y valid mine (λ j apart. same-others D j (nb j apart))
+  same_set D p y valid nb mine = set_slots S ms₀ h w inv (λ q z. Same x (Since D q) z) p y valid mine (λ j apart. same_others D j (nb j apart))
 
-  holds_on : (P : List ℕ → Type 0) (ms : List CloudMeaning) → Keeps P w.clouds ms → P (save-name x) → Holds S (get_or ms i no-cloud) (save-name x) x.size x.digest
+  holds_on : (P : List ℕ → Type 0) (ms : List CloudMeaning) → Keeps P w.clouds ms → P (save_name x) → Holds S (get_or ms i no_cloud) (save_name x) x.size x.digest
   holds_on P ms keeps named =
       let o = t.holds in
-      record { value = o.value; held = (keeps.each i).keeps t.sound (save-name x) named ∙ o.held; long = o.long; same = o.same }
+      record { value = o.value; held = (keeps.each i).keeps t.sound (save_name x) named ∙ o.held; long = o.long; same = o.same }
 
   -- the entry of an equal key is the save
-  stands_at : (c : ℕ) (k : List ℕ) → c ≡ x.container → k ≡ x.key → entry_of w.directory c k ≡ Some (saved-entry x)
+  stands_at : (c : ℕ) (k : List ℕ) → c ≡ x.container → k ≡ x.key → entry_of w.directory c k ≡ Some (saved_entry x)
   stands_at c k ec ek = ap (λ (n : ℕ). entry_of w.directory n k) ec ∙ ap (λ (l : List ℕ). entry_of w.directory x.container l) ek ∙ t.stands
 
-  stamp-at : (c : ℕ) (k : List ℕ) → c ≡ x.container → k ≡ x.key → stamp-of (entry_of w.directory c k) ≡ x.stamp
-  stamp-at c k ec ek = ap (λ (o : Option EntryValue). stamp-of o) (stands_at c k ec ek)
+  stamp_at : (c : ℕ) (k : List ℕ) → c ≡ x.container → k ≡ x.key → stamp_of (entry_of w.directory c k) ≡ x.stamp
+  stamp_at c k ec ek = ap (λ (o : Option EntryValue). stamp_of o) (stands_at c k ec ek)
 
   -- no store writes under the name of the save that stands
-  store-elsewhere : (p : ℕ) (y : SavingValue) → valid-party p ≡ true → slot_of w p ≡ saving y → save-name y ≡ save-name x → ⊥
-  store-elsewhere p y valid at e =
-      let o : Saving-ok S ms₀ w.directory w.clouds (view p h) p y = own S ms₀ h w inv p valid (saving y) at in
-      let (ec, ek, et) = names-are-distinct y.container x.container y.key x.key y.stamp x.stamp e in
-      o.other (stamp-at y.container y.key ec ek ∙ sym et)
+  store_elsewhere : (p : ℕ) (y : SavingValue) → valid_party p ≡ true → slot_of w p ≡ saving y → save_name y ≡ save_name x → ⊥
+  store_elsewhere p y valid at e =
+      let o : SavingOk S ms₀ w.directory w.clouds (view p h) p y = own S ms₀ h w inv p valid (saving y) at in
+      let (ec, ek, et) = names_are_distinct y.container x.container y.key x.key y.stamp x.stamp e in
+      o.other (stamp_at y.container y.key ec ek ∙ sym et)
 
   -- no sweep drops the name of the save that stands
-  sweep-elsewhere : (p : ℕ) (y : SweepingValue) → valid-party p ≡ true → slot_of w p ≡ sweeping y → Not-below y.container y.key y.stamp (save-name x)
-  sweep-elsewhere p y valid at u e low =
-      let o : Sweeping-ok S ms₀ w.directory w.clouds (view p h) p y = own S ms₀ h w inv p valid (sweeping y) at in
-      let (ec, ek, et) = names-are-distinct x.container y.container x.key y.key x.stamp u e in
-      both_ways (stamp-below (stamp-of (entry_of w.directory y.container y.key)) y.stamp) o.low
-      (ap (λ (v : StampValue). stamp-below v y.stamp) (stamp-at y.container y.key (sym ec) (sym ek) ∙ et) ∙ low)
+  sweep_elsewhere : (p : ℕ) (y : SweepingValue) → valid_party p ≡ true → slot_of w p ≡ sweeping y → NotBelow y.container y.key y.stamp (save_name x)
+  sweep_elsewhere p y valid at u e low =
+      let o : SweepingOk S ms₀ w.directory w.clouds (view p h) p y = own S ms₀ h w inv p valid (sweeping y) at in
+      let (ec, ek, et) = names_are_distinct x.container y.container x.key y.key x.stamp u e in
+      both_ways (stamp_below (stamp_of (entry_of w.directory y.container y.key)) y.stamp) o.low
+      (ap (λ (v : StampValue). stamp_below v y.stamp) (stamp_at y.container y.key (sym ec) (sym ek) ∙ et) ∙ low)
 
   entry_kept : (d : DirectoryMeaning) (c : ℕ) (k : List ℕ) (e : EntryValue) → d.entries ≡ insert w.directory.entries (address c k) e → same_key c k x.container x.key ≡ false
-      → entry_of d x.container x.key ≡ Some (saved-entry x)
+      → entry_of d x.container x.key ≡ Some (saved_entry x)
   entry_kept d c k e is other =
       entry_set w.directory d c k e is x.container x.key
       ∙ ap (λ (b : Bool). cond b (Some e) (entry_of w.directory x.container x.key)) other ∙ t.stands
 
-  same-look : (c : ℕ) (k : List ℕ) (e : EntryValue) (l : LiveValue) (T : Type 0) → entry_of w.directory c k ≡ Some e → e.live ≡ Some l → Same x T (fetch c k e.stamp l)
-  same-look c k e l T is live _ ec ek =
-      let both : Some e ≡ Some (saved-entry x) = sym is ∙ stands_at c k ec ek in
-      let same : e ≡ saved-entry x = cc both in
-      let lives : Some l ≡ Some (saved-live x) = sym live ∙ ap (λ (z : EntryValue). z.live) same in
+  same_look : (c : ℕ) (k : List ℕ) (e : EntryValue) (l : LiveValue) (T : Type 0) → entry_of w.directory c k ≡ Some e → e.live ≡ Some l → Same x T (fetch c k e.stamp l)
+  same_look c k e l T is live _ ec ek =
+      let both : Some e ≡ Some (saved_entry x) = sym is ∙ stands_at c k ec ek in
+      let same : e ≡ saved_entry x = cc both in
+      let lives : Some l ≡ Some (saved_live x) = sym live ∙ ap (λ (z : EntryValue). z.live) same in
       (ap (λ (z : EntryValue). z.stamp) same, cc lives)
 
   -- clouds change, and slots do not
-  tracked-clouds : (P : List ℕ → Type 0) (ms : List CloudMeaning) → Keeps P w.clouds ms → P (save-name x) → Track S x i (Since nothing) (with-clouds w ms)
-  tracked-clouds P ms keeps named = record { stands = t.stands; sound = (keeps.each i).stays t.sound; holds = holds_on P ms keeps named; fetches = λ j. same-others nothing j tt }
+  tracked_clouds : (P : List ℕ → Type 0) (ms : List CloudMeaning) → Keeps P w.clouds ms → P (save_name x) → Track S x i (Since nothing) (with_clouds w ms)
+  tracked_clouds P ms keeps named = record { stands = t.stands; sound = (keeps.each i).stays t.sound; holds = holds_on P ms keeps named; fetches = λ j. same_others nothing j tt }
 
   -- a slot changes
-  tracked-slot : (D : Deed) (p : ℕ) (y : SlotValue) (P : List ℕ → Type 0) (ms : List CloudMeaning) → valid-party p ≡ true → ((j : ℕ) → eqb p (suc j) ≡ false → Not-by (suc j) D)
-      → Keeps P w.clouds ms → P (save-name x) → Same x (Since D p) y → Track S x i (Since D) (with-slot (with-clouds w ms) p y)
-  tracked-slot D p y P ms valid nb keeps named mine = record { stands = t.stands; sound = (keeps.each i).stays t.sound; holds = holds_on P ms keeps named; fetches = same_set D p y valid nb mine }
+  tracked_slot : (D : Deed) (p : ℕ) (y : SlotValue) (P : List ℕ → Type 0) (ms : List CloudMeaning) → valid_party p ≡ true → ((j : ℕ) → eqb p (suc j) ≡ false → NotBy (suc j) D)
+      → Keeps P w.clouds ms → P (save_name x) → Same x (Since D p) y → Track S x i (Since D) (with_slot (with_clouds w ms) p y)
+  tracked_slot D p y P ms valid nb keeps named mine = record { stands = t.stands; sound = (keeps.each i).stays t.sound; holds = holds_on P ms keeps named; fetches = same_set D p y valid nb mine }
 
 track : {S : Setting} {ms₀ : List CloudMeaning} {h : History} {w : State} {x : SavingValue} {i : ℕ} {L : ℕ → Type 0} {D : Deed} {z : State}
-    → Inv S ms₀ h w → Track S x i L w → Effect S w D z → commits x.container x.key D h ≡ None → Track S x i (λ q. Is-some (looks q D h) ⊎ L q) z
+    → Inv S ms₀ h w → Track S x i L w → Effect S w D z → commits x.container x.key D h ≡ None → Track S x i (λ q. IsSome (looks q D h) ⊎ L q) z
 unfolding Since
-track {S} {ms₀} {h} {w} {x} {i} {L} inv t quiet n = record { stands = t.stands; sound = t.sound; holds = t.holds; fetches = λ j. same-others S ms₀ h w inv x i L t nothing j tt }
-track {S} {ms₀} {h} {w} {x} {i} {L} inv t (asked ms keeps) n = tracked-clouds S ms₀ h w inv x i L t Any-name ms keeps tt
-track {S} {ms₀} {h} {w} {x} {i} {L} inv t (began-one p c k v valid at) n =
-    tracked-slot S ms₀ h w inv x i L t (began p c k v) p (saving (begun S w p c k v)) Any-name w.clouds valid (λ j apart. apart) (keeps_self Any-name w.clouds) tt tt
+track {S} {ms₀} {h} {w} {x} {i} {L} inv t quiet n = record { stands = t.stands; sound = t.sound; holds = t.holds; fetches = λ j. same_others S ms₀ h w inv x i L t nothing j tt }
+track {S} {ms₀} {h} {w} {x} {i} {L} inv t (asked ms keeps) n = tracked_clouds S ms₀ h w inv x i L t AnyName ms keeps tt
+track {S} {ms₀} {h} {w} {x} {i} {L} inv t (began_one p c k v valid at) n =
+    tracked_slot S ms₀ h w inv x i L t (began p c k v) p (saving (begun S w p c k v)) AnyName w.clouds valid (λ j apart. apart) (keeps_self AnyName w.clouds) tt tt
 track {S} {ms₀} {h} {w} {x} {i} {L} inv t (stored_one p j v y ms valid at known size digest keeps others holds) n =
-    tracked-slot S ms₀ h w inv x i L t (stores p j v) p (saving (acknowledged y j)) (Other-than (save-name y)) ms valid (λ j apart. apart) keeps (store-elsewhere S ms₀ h w inv x i L t p y valid at) tt
-track {S} {ms₀} {h} {w} {x} {i} {L} inv t (committed-one p y d valid at enough low is) n =
-    let o : Saving-ok S ms₀ w.directory w.clouds (view p h) p y = own S ms₀ h w inv p valid (saving y) at in
-    let elsewhere : when (same_key y.container y.key x.container x.key) (saved o.value) ≡ None = sym (ap (λ (b : Option (ℕ × List ℕ × List ℕ)). saved-at x.container x.key b) o.begun-with) ∙ n in
+    tracked_slot S ms₀ h w inv x i L t (stores p j v) p (saving (acknowledged y j)) (OtherThan (save_name y)) ms valid (λ j apart. apart) keeps (store_elsewhere S ms₀ h w inv x i L t p y valid at) tt
+track {S} {ms₀} {h} {w} {x} {i} {L} inv t (committed_one p y d valid at enough low is) n =
+    let o : SavingOk S ms₀ w.directory w.clouds (view p h) p y = own S ms₀ h w inv p valid (saving y) at in
+    let elsewhere : when (same_key y.container y.key x.container x.key) (saved o.value) ≡ None = sym (ap (λ (b : Option (ℕ × List ℕ × List ℕ)). saved_at x.container x.key b) o.begun_with) ∙ n in
     record {
-      stands = entry_kept S ms₀ h w inv x i L t d y.container y.key (saved-entry y) is (when-none (same_key y.container y.key x.container x.key) (saved o.value) elsewhere);
+      stands = entry_kept S ms₀ h w inv x i L t d y.container y.key (saved_entry y) is (when_none (same_key y.container y.key x.container x.key) (saved o.value) elsewhere);
       sound = t.sound;
       holds = t.holds;
-      fetches = same_set S ms₀ h w inv x i L t (commits-save p) p idle valid (λ j apart. apart) tt;
+      fetches = same_set S ms₀ h w inv x i L t (commits_save p) p idle valid (λ j apart. apart) tt;
     }
 track {S} {ms₀} {h} {w} {x} {i} {L} inv t (passed p y valid at) n =
-    tracked-slot S ms₀ h w inv x i L t nothing p idle Any-name w.clouds valid (λ j apart. tt) (keeps_self Any-name w.clouds) tt tt
-track {S} {ms₀} {h} {w} {x} {i} {L} inv t (deleted-one p c k d valid at is) n = record {
-  stands = entry_kept S ms₀ h w inv x i L t d c k (deleted-entry (new-stamp w p c k)) is (when-none (same_key c k x.container x.key) erased n);
+    tracked_slot S ms₀ h w inv x i L t nothing p idle AnyName w.clouds valid (λ j apart. tt) (keeps_self AnyName w.clouds) tt tt
+track {S} {ms₀} {h} {w} {x} {i} {L} inv t (deleted_one p c k d valid at is) n = record {
+  stands = entry_kept S ms₀ h w inv x i L t d c k (deleted_entry (new_stamp w p c k)) is (when_none (same_key c k x.container x.key) erased n);
   sound = t.sound;
   holds = t.holds;
-  fetches = λ j. same-fewer x (get_or w.slots j idle) (not-since S ms₀ h w inv x i L t (deletes p c k) (suc j) (λ a. a)) (t.fetches j);
+  fetches = λ j. same_fewer x (get_or w.slots j idle) (not_since S ms₀ h w inv x i L t (deletes p c k) (suc j) (λ a. a)) (t.fetches j);
 }
 track {S} {ms₀} {h} {w} {x} {i} {L} inv t (looked p c k e l valid at is live) n =
-    tracked-slot S ms₀ h w inv x i L t (looks-first p c k) p (fetch c k e.stamp l) Any-name w.clouds valid (λ j apart. apart) (keeps_self Any-name w.clouds) tt
-    (same-look S ms₀ h w inv x i L t c k e l (Since S ms₀ h w inv x i L t (looks-first p c k) p) is live)
-track {S} {ms₀} {h} {w} {x} {i} {L} inv t (looked-on p y e l valid at is live) n =
-    tracked-slot S ms₀ h w inv x i L t (looks_on p) p (fetch y.container y.key e.stamp l) Any-name w.clouds valid (λ j apart. apart) (keeps_self Any-name w.clouds) tt
-    (same-look S ms₀ h w inv x i L t y.container y.key e l (Since S ms₀ h w inv x i L t (looks_on p) p) is live)
+    tracked_slot S ms₀ h w inv x i L t (looks_first p c k) p (fetch c k e.stamp l) AnyName w.clouds valid (λ j apart. apart) (keeps_self AnyName w.clouds) tt
+    (same_look S ms₀ h w inv x i L t c k e l (Since S ms₀ h w inv x i L t (looks_first p c k) p) is live)
+track {S} {ms₀} {h} {w} {x} {i} {L} inv t (looked_on p y e l valid at is live) n =
+    tracked_slot S ms₀ h w inv x i L t (looks_on p) p (fetch y.container y.key e.stamp l) AnyName w.clouds valid (λ j apart. apart) (keeps_self AnyName w.clouds) tt
+    (same_look S ms₀ h w inv x i L t y.container y.key e l (Since S ms₀ h w inv x i L t (looks_on p) p) is live)
 track {S} {ms₀} {h} {w} {x} {i} {L} inv t (completed p j v y ms valid at long digest keeps) n =
-    tracked-slot S ms₀ h w inv x i L t (completes p j v) p idle Any-name ms valid (λ j apart. apart) keeps tt tt
+    tracked_slot S ms₀ h w inv x i L t (completes p j v) p idle AnyName ms valid (λ j apart. apart) keeps tt tt
 track {S} {ms₀} {h} {w} {x} {i} {L} inv t (ended p valid) n =
-    tracked-slot S ms₀ h w inv x i L t (ends p) p idle Any-name w.clouds valid (λ j apart. apart) (keeps_self Any-name w.clouds) tt tt
-track {S} {ms₀} {h} {w} {x} {i} {L} inv t (began-sweeping p c k e valid at is) n =
-    tracked-slot S ms₀ h w inv x i L t nothing p (sweeping (record { container = c; key = k; stamp = e.stamp })) Any-name w.clouds valid (λ j apart. tt) (keeps_self Any-name w.clouds) tt tt
-track {S} {ms₀} {h} {w} {x} {i} {L} inv t (swept-one p y ms valid at keeps) n =
-    tracked-clouds S ms₀ h w inv x i L t (Not-below y.container y.key y.stamp) ms keeps (sweep-elsewhere S ms₀ h w inv x i L t p y valid at)
+    tracked_slot S ms₀ h w inv x i L t (ends p) p idle AnyName w.clouds valid (λ j apart. apart) (keeps_self AnyName w.clouds) tt tt
+track {S} {ms₀} {h} {w} {x} {i} {L} inv t (began_sweeping p c k e valid at is) n =
+    tracked_slot S ms₀ h w inv x i L t nothing p (sweeping (record { container = c; key = k; stamp = e.stamp })) AnyName w.clouds valid (λ j apart. tt) (keeps_self AnyName w.clouds) tt tt
+track {S} {ms₀} {h} {w} {x} {i} {L} inv t (swept_one p y ms valid at keeps) n =
+    tracked_clouds S ms₀ h w inv x i L t (NotBelow y.container y.key y.stamp) ms keeps (sweep_elsewhere S ms₀ h w inv x i L t p y valid at)
 
-pub track-run : {S : Setting} {ms₀ : List CloudMeaning} {h₀ : History} {u : State} {x : SavingValue} {i : ℕ} {h : History} {w : State}
-    → Inv S ms₀ h₀ u → Track S x i (λ q. ⊥) u → (r : Run S h₀ u h w) → None-in (commits x.container x.key) r → Track S x i (λ q. Some-in (looks q) r) w
-track-run inv t start n = t
-track-run {S} inv t (then {t = w} {u = z} r e step) n = track (goes_on inv r) (track-run inv t r n.1) (effect_of S w e z step) n.0
+pub track_run : {S : Setting} {ms₀ : List CloudMeaning} {h₀ : History} {u : State} {x : SavingValue} {i : ℕ} {h : History} {w : State}
+    → Inv S ms₀ h₀ u → Track S x i (λ q. ⊥) u → (r : Run S h₀ u h w) → NoneIn (commits x.container x.key) r → Track S x i (λ q. SomeIn (looks q) r) w
+track_run inv t start n = t
+track_run {S} inv t (then {t = w} {u = z} r e step) n = track (goes_on inv r) (track_run inv t r n.1) (effect_of S w e z step) n.0

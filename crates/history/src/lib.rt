@@ -1,8 +1,8 @@
 //! What a Locker promises, over every history of calls.
 
-ghost use Rattle.history.specs.Promises.{An-opened-Locker-keeps-its-promises};
+ghost use Rattle.history.specs.Promises.{AnOpenedLockerKeepsItsPromises};
 
 /// A Locker that was opened over an empty directory keeps the three promises, whatever calls come at it.
 pub fn an_opened_locker_keeps_its_promises()
-    ensures { An-opened-Locker-keeps-its-promises }
+    ensures { AnOpenedLockerKeepsItsPromises }
 {}

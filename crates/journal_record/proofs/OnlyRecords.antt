@@ -3,13 +3,13 @@ use Rattle.std.proofs.Common.{◌≡◌, ℕ, ◌+◌, ◌*◌, ◌/◌, ◌%◌
 use Rattle.std.proofs.lemmas.List.{take-append-drop, length-take-le}
 use Rattle.std.proofs.lemmas.Bool.{and_parts, leb-true, eqb-true, ne_eqb, eq-eqb}
 use Rattle.std.proofs.lemmas.Bool.Decides.{nat_tests}
-use Rattle.naming.specs.Stamps.{StampValue, valid-writer}
-use Rattle.naming.specs.Text.{valid-key}
-use Rattle.entry.specs.Entries.{LiveValue, valid-live, stamp-taken}
-use Rattle.journal_record.specs.Records.{RecordValue, Valid-record}
-use Rattle.journal_record.specs.Layout.{four_bytes, two_bytes, stamp-field, container-field, size-field, live-fields, live-bits, map_of, head_of, encode}
-use Rattle.journal_record.specs.Parse.{Read, then, guard, take-byte, take-two, take-four, take_part, take-stamp, take-container, take-size, take-digest, take-live, take-state, take-fields, bit, same, marked, says-deleted, says-live, live-in-limits, in-limits, parse}
-use Rattle.journal_record.specs.Laws.{Only-records-are-read}
+use Rattle.naming.specs.Stamps.{StampValue, valid_writer}
+use Rattle.naming.specs.Text.{valid_key}
+use Rattle.entry.specs.Entries.{LiveValue, valid_live, stamp_taken}
+use Rattle.journal_record.specs.Records.{RecordValue, ValidRecord}
+use Rattle.journal_record.specs.Layout.{four_bytes, two_bytes, stamp_field, container_field, size_field, live_fields, live_bits, map_of, head_of, encode}
+use Rattle.journal_record.specs.Parse.{Read, then, guard, take_byte, take_two, take_four, take_part, take_stamp, take_container, take_size, take_digest, take_live, take_state, take_fields, bit, same, marked, says_deleted, says_live, live_in_limits, in_limits, parse}
+use Rattle.journal_record.specs.Laws.{OnlyRecordsAreRead}
 
 -- ---- steps of reading, turned round
 
@@ -29,12 +29,12 @@ guard_passed false o y h = absurd (grind arith)
 
 -- ---- bytes and numbers
 
-byte-only : (xs : List ℕ) (x : ℕ) (ys : List ℕ) → take-byte xs ≡ Some (x, ys) → xs ≡ x ∷ ys
-byte-only [] x ys h = absurd (grind arith)
-byte-only (a ∷ xs) x ys h = let e = some_pair h in cc
+byte_only : (xs : List ℕ) (x : ℕ) (ys : List ℕ) → take_byte xs ≡ Some (x, ys) → xs ≡ x ∷ ys
+byte_only [] x ys h = absurd (grind arith)
+byte_only (a ∷ xs) x ys h = let e = some_pair h in cc
 
-part-only : (n : ℕ) (xs p q : List ℕ) → take_part n xs ≡ Some (p, q) → (length p ≡ n) × (xs ≡ p ++ q)
-part-only n xs p q h =
+part_only : (n : ℕ) (xs p q : List ℕ) → take_part n xs ≡ Some (p, q) → (length p ≡ n) × (xs ≡ p ++ q)
+part_only n xs p q h =
     let g = guard_passed (leb n (length xs)) (Some (take n xs, drop n xs)) (p, q) h in
     let l : n ≤ length xs = leb-true n (length xs) g.0 in
     let e = some_pair g.1 in
@@ -42,10 +42,10 @@ part-only n xs p q h =
     let b : drop n xs ≡ q = e.1 in
     (rw (← a) (length-take-le n xs l), rw (← a, ← b) (sym (take-append-drop n xs)))
 
-two-only : (xs : List ℕ) (s : ℕ) (ys : List ℕ) → take-two xs ≡ Some (s, ys) → xs ≡ two_bytes s ++ ys
-two-only [] s ys h = absurd (grind arith)
-two-only (x ∷ []) s ys h = absurd (grind arith)
-two-only (x ∷ y ∷ xs) s ys h =
+two_only : (xs : List ℕ) (s : ℕ) (ys : List ℕ) → take_two xs ≡ Some (s, ys) → xs ≡ two_bytes s ++ ys
+two_only [] s ys h = absurd (grind arith)
+two_only (x ∷ []) s ys h = absurd (grind arith)
+two_only (x ∷ y ∷ xs) s ys h =
     let g = guard_passed _ _ _ h in
     let f = some_pair g.1 in
     let e : s ≡ x * 256 + y = sym f.0 in
@@ -56,12 +56,12 @@ two-only (x ∷ y ∷ xs) s ys h =
     let lo : s % 256 ≡ y = omega arith in
     rw (hi, lo) cc
 
-four-only : (xs : List ℕ) (s : ℕ) (ys : List ℕ) → take-four xs ≡ Some (s, ys) → (s ≤ 4294967295) × (xs ≡ four_bytes s ++ ys)
-four-only [] s ys h = absurd (grind arith)
-four-only (x ∷ []) s ys h = absurd (grind arith)
-four-only (x ∷ y ∷ []) s ys h = absurd (grind arith)
-four-only (x ∷ y ∷ z ∷ []) s ys h = absurd (grind arith)
-four-only (x ∷ y ∷ z ∷ w ∷ xs) s ys h =
+four_only : (xs : List ℕ) (s : ℕ) (ys : List ℕ) → take_four xs ≡ Some (s, ys) → (s ≤ 4294967295) × (xs ≡ four_bytes s ++ ys)
+four_only [] s ys h = absurd (grind arith)
+four_only (x ∷ []) s ys h = absurd (grind arith)
+four_only (x ∷ y ∷ []) s ys h = absurd (grind arith)
+four_only (x ∷ y ∷ z ∷ []) s ys h = absurd (grind arith)
+four_only (x ∷ y ∷ z ∷ w ∷ xs) s ys h =
     let g = guard_passed _ _ _ h in
     let f = some_pair g.1 in
     let e : s ≡ x * 16777216 + y * 65536 + z * 256 + w = sym f.0 in
@@ -80,21 +80,21 @@ four-only (x ∷ y ∷ z ∷ w ∷ xs) s ys h =
 
 -- ---- fields
 
-stamp-only : (xs : List ℕ) (s : StampValue) (ys : List ℕ) → take-stamp xs ≡ Some (s, ys) → (s.sequence ≤ 4294967295) × (xs ≡ stamp-field s ++ ys)
-stamp-only xs s ys h =
-    on_then (take-four xs) _ (s, ys) h (λ n xs1 h1 h2.
-    on_then (take-byte xs1) _ (s, ys) h2 (λ w xs2 h3 h4.
+stamp_only : (xs : List ℕ) (s : StampValue) (ys : List ℕ) → take_stamp xs ≡ Some (s, ys) → (s.sequence ≤ 4294967295) × (xs ≡ stamp_field s ++ ys)
+stamp_only xs s ys h =
+    on_then (take_four xs) _ (s, ys) h (λ n xs1 h1 h2.
+    on_then (take_byte xs1) _ (s, ys) h2 (λ w xs2 h3 h4.
     let f = some_pair {A = StampValue} {a = record { sequence = n; writer = w }} {b = s} {x = xs2} {y = ys} h4 in
-    let x1 = four-only xs n xs1 h1 in
-    let x2 = byte-only xs1 w xs2 h3 in
-    let P : StampValue → Type 0 = λ s. (s.sequence ≤ 4294967295) × (xs ≡ stamp-field s ++ ys) in
+    let x1 = four_only xs n xs1 h1 in
+    let x2 = byte_only xs1 w xs2 h3 in
+    let P : StampValue → Type 0 = λ s. (s.sequence ≤ 4294967295) × (xs ≡ stamp_field s ++ ys) in
     let e : xs ≡ four_bytes n ++ (w ∷ ys) = x1.1 ∙ ap (λ (z : List ℕ). four_bytes n ++ z) (x2 ∙ ap (λ (z : List ℕ). w ∷ z) f.1) in
     subst P f.0 (x1.0, e)))
 
-container-only : (b : Bool) (xs : List ℕ) (x : ℕ) (ys : List ℕ) → take-container b xs ≡ Some (x, ys) → (b ≡ not (eqb x 0)) × (x ≤ 255) × (xs ≡ container-field x ++ ys)
-container-only false xs x ys h = let f = some_pair h in let z : x ≡ 0 = sym f.0 in (rw z, omega arith, rw z f.1)
-container-only true xs x ys h =
-    on_then (take-byte xs) _ (x, ys) h (λ x1 ys1 h1 h2.
+container_only : (b : Bool) (xs : List ℕ) (x : ℕ) (ys : List ℕ) → take_container b xs ≡ Some (x, ys) → (b ≡ not (eqb x 0)) × (x ≤ 255) × (xs ≡ container_field x ++ ys)
+container_only false xs x ys h = let f = some_pair h in let z : x ≡ 0 = sym f.0 in (rw z, omega arith, rw z f.1)
+container_only true xs x ys h =
+    on_then (take_byte xs) _ (x, ys) h (λ x1 ys1 h1 h2.
     let g = guard_passed _ _ _ h2 in
     let f = some_pair g.1 in
     let e : x1 ≡ x = f.0 in
@@ -102,49 +102,49 @@ container-only true xs x ys h =
     let lo = leb-true 1 x1 w.0 in
     let hi = leb-true x1 255 w.1 in
     let m : eqb x 0 ≡ false = ne_eqb x 0 (λ q. omega arith) in
-    let t = byte-only xs x1 ys1 h1 in
+    let t = byte_only xs x1 ys1 h1 in
     let k : x1 ∷ ys1 ≡ x ∷ ys = rw (e, f.1) in
     (rw m, omega arith, rw m (t ∙ k)))
 
-size-only : (b : Bool) (xs : List ℕ) (x : ℕ) (ys : List ℕ) → take-size b xs ≡ Some (x, ys) → (b ≡ not (eqb x 0)) × (xs ≡ size-field x ++ ys)
-size-only false xs x ys h = let f = some_pair h in let z : x ≡ 0 = sym f.0 in (rw z, rw z f.1)
-size-only true xs x ys h =
-    on_then (take-two xs) _ (x, ys) h (λ x1 ys1 h1 h2.
+size_only : (b : Bool) (xs : List ℕ) (x : ℕ) (ys : List ℕ) → take_size b xs ≡ Some (x, ys) → (b ≡ not (eqb x 0)) × (xs ≡ size_field x ++ ys)
+size_only false xs x ys h = let f = some_pair h in let z : x ≡ 0 = sym f.0 in (rw z, rw z f.1)
+size_only true xs x ys h =
+    on_then (take_two xs) _ (x, ys) h (λ x1 ys1 h1 h2.
     let g = guard_passed _ _ _ h2 in
     let f = some_pair g.1 in
     let e : x1 ≡ x = f.0 in
     let lo = leb-true 1 x1 g.0 in
     let m : eqb x 0 ≡ false = ne_eqb x 0 (λ q. omega arith) in
-    let t = two-only xs x1 ys1 h1 in
+    let t = two_only xs x1 ys1 h1 in
     let k : two_bytes x1 ++ ys1 ≡ two_bytes x ++ ys = rw (e, f.1) in
     (rw m, rw m (t ∙ k)))
 
-digest-only : (long : Bool) (xs d ys : List ℕ) → take-digest long xs ≡ Some (d, ys) → (cond (eqb (length d) 20) 8 16 ≡ cond {A = ℕ} long 16 8) × (xs ≡ d ++ ys)
-digest-only true xs d ys h = let s = part-only 32 xs d ys h in let n : eqb (length d) 20 ≡ false = ne_eqb (length d) 20 (λ q. let l = s.0 in omega arith) in (rw n, s.1)
-digest-only false xs d ys h = let s = part-only 20 xs d ys h in let n : eqb (length d) 20 ≡ true = eq-eqb (length d) 20 s.0 in (rw n, s.1)
+digest_only : (long : Bool) (xs d ys : List ℕ) → take_digest long xs ≡ Some (d, ys) → (cond (eqb (length d) 20) 8 16 ≡ cond {A = ℕ} long 16 8) × (xs ≡ d ++ ys)
+digest_only true xs d ys h = let s = part_only 32 xs d ys h in let n : eqb (length d) 20 ≡ false = ne_eqb (length d) 20 (λ q. let l = s.0 in omega arith) in (rw n, s.1)
+digest_only false xs d ys h = let s = part_only 20 xs d ys h in let n : eqb (length d) 20 ≡ true = eq-eqb (length d) 20 s.0 in (rw n, s.1)
 
 sizes : (b z : Bool) → b ≡ not z → cond {A = ℕ} z 0 4 ≡ cond b 4 0
 sizes b true e = rw e
 sizes b false e = rw e
 
-live-only : (map : ℕ) (xs : List ℕ) (l : LiveValue) (ys : List ℕ) → take-live map xs ≡ Some (l, ys) → (live-bits (Some l) ≡ 2 + cond (bit 2 map) 4 0 + cond (bit 4 map) 16 8) × (xs ≡ live-fields (Some l) ++ ys)
-live-only map xs l ys h =
-    on_then (take-byte xs) _ (l, ys) h (λ c xs1 h1 h2.
-    on_then (take-size (bit 2 map) xs1) _ (l, ys) h2 (λ s xs2 h3 h4.
-    on_then (take-digest (bit 4 map) xs2) _ (l, ys) h4 (λ d xs3 h5 h6.
+live_only : (map : ℕ) (xs : List ℕ) (l : LiveValue) (ys : List ℕ) → take_live map xs ≡ Some (l, ys) → (live_bits (Some l) ≡ 2 + cond (bit 2 map) 4 0 + cond (bit 4 map) 16 8) × (xs ≡ live_fields (Some l) ++ ys)
+live_only map xs l ys h =
+    on_then (take_byte xs) _ (l, ys) h (λ c xs1 h1 h2.
+    on_then (take_size (bit 2 map) xs1) _ (l, ys) h2 (λ s xs2 h3 h4.
+    on_then (take_digest (bit 4 map) xs2) _ (l, ys) h4 (λ d xs3 h5 h6.
     let f = some_pair {A = LiveValue} {a = record { clouds = c; size = s; digest = d }} {b = l} {x = xs3} {y = ys} h6 in
-    let x1 = byte-only xs c xs1 h1 in
-    let x2 = size-only (bit 2 map) xs1 s xs2 h3 in
-    let x3 = digest-only (bit 4 map) xs2 d xs3 h5 in
+    let x1 = byte_only xs c xs1 h1 in
+    let x2 = size_only (bit 2 map) xs1 s xs2 h3 in
+    let x3 = digest_only (bit 4 map) xs2 d xs3 h5 in
     let e3 : xs2 ≡ d ++ ys = x3.1 ∙ ap (λ (z : List ℕ). d ++ z) f.1 in
-    let e2 : xs1 ≡ size-field s ++ (d ++ ys) = x2.1 ∙ ap (λ (z : List ℕ). size-field s ++ z) e3 in
-    let e1 : xs ≡ c ∷ (size-field s ++ (d ++ ys)) = x1 ∙ ap (λ (z : List ℕ). c ∷ z) e2 in
+    let e2 : xs1 ≡ size_field s ++ (d ++ ys) = x2.1 ∙ ap (λ (z : List ℕ). size_field s ++ z) e3 in
+    let e1 : xs ≡ c ∷ (size_field s ++ (d ++ ys)) = x1 ∙ ap (λ (z : List ℕ). c ∷ z) e2 in
     let z = sizes (bit 2 map) (eqb s 0) x2.0 in
     let w = x3.0 in
-    let P : LiveValue → Type 0 = λ l. (live-bits (Some l) ≡ 2 + cond (bit 2 map) 4 0 + cond (bit 4 map) 16 8) × (xs ≡ live-fields (Some l) ++ ys) in
-    subst P f.0 (λ i. 2 + z i + w i, e1 ∙ ap (λ (z : List ℕ). c ∷ z) (sym (append_assoc (size-field s) d ys))))))
+    let P : LiveValue → Type 0 = λ l. (live_bits (Some l) ≡ 2 + cond (bit 2 map) 4 0 + cond (bit 4 map) 16 8) × (xs ≡ live_fields (Some l) ++ ys) in
+    subst P f.0 (λ i. 2 + z i + w i, e1 ∙ ap (λ (z : List ℕ). c ∷ z) (sym (append_assoc (size_field s) d ys))))))
 
-live_map : (m : ℕ) → says-live m ≡ true → m / 2 % 16 * 2 ≡ 2 + cond (bit 2 m) 4 0 + cond (bit 4 m) 16 8
+live_map : (m : ℕ) → says_live m ≡ true → m / 2 % 16 * 2 ≡ 2 + cond (bit 2 m) 4 0 + cond (bit 4 m) 16 8
 live_map m h = by (bit 2 m) refl (bit 3 m) refl (bit 4 m) refl h
   where
     by : (b2 : Bool) → bit 2 m ≡ b2 → (b3 : Bool) → bit 3 m ≡ b3 → (b4 : Bool) → bit 4 m ≡ b4 → (bit 1 m && not (same b3 b4)) ≡ true → m / 2 % 16 * 2 ≡ 2 + cond b2 4 0 + cond b4 16 8
@@ -157,22 +157,22 @@ live_map m h = by (bit 2 m) refl (bit 3 m) refl (bit 4 m) refl h
     by true e2 false e3 true e4 h = grind (arith, nat_tests)
     by false e2 false e3 true e4 h = grind (arith, nat_tests)
 
-state-only : (m : ℕ) (xs : List ℕ) (o : Option LiveValue) (ys : List ℕ) → take-state m xs ≡ Some (o, ys) → (live-bits o ≡ m / 2 % 16 * 2) × (xs ≡ live-fields o ++ ys)
-state-only m xs o ys h = by (says-deleted m) refl h
+state_only : (m : ℕ) (xs : List ℕ) (o : Option LiveValue) (ys : List ℕ) → take_state m xs ≡ Some (o, ys) → (live_bits o ≡ m / 2 % 16 * 2) × (xs ≡ live_fields o ++ ys)
+state_only m xs o ys h = by (says_deleted m) refl h
   where
-    by : (b : Bool) → says-deleted m ≡ b → cond {A = Read (Option LiveValue)} b (Some (None, xs)) (guard (says-live m) (then (take-live m xs) (λ live rest. Some (Some live, rest)))) ≡ Some (o, ys) → (live-bits o ≡ m / 2 % 16 * 2) × (xs ≡ live-fields o ++ ys)
+    by : (b : Bool) → says_deleted m ≡ b → cond {A = Read (Option LiveValue)} b (Some (None, xs)) (guard (says_live m) (then (take_live m xs) (λ live rest. Some (Some live, rest)))) ≡ Some (o, ys) → (live_bits o ≡ m / 2 % 16 * 2) × (xs ≡ live_fields o ++ ys)
     by true e h =
         let f = some_pair {A = Option LiveValue} {a = None} {b = o} {x = xs} {y = ys} h in
         let z = eqb-true (m / 2 % 16) 0 e in
-        let P : Option LiveValue → Type 0 = λ o. (live-bits o ≡ m / 2 % 16 * 2) × (xs ≡ live-fields o ++ ys) in
+        let P : Option LiveValue → Type 0 = λ o. (live_bits o ≡ m / 2 % 16 * 2) × (xs ≡ live_fields o ++ ys) in
         subst P f.0 (omega arith, f.1)
     by false e h =
         let g = guard_passed _ _ _ h in
-        on_then (take-live m xs) _ (o, ys) g.1 (λ l rest h1 h2.
+        on_then (take_live m xs) _ (o, ys) g.1 (λ l rest h1 h2.
         let f = some_pair {A = Option LiveValue} {a = Some l} {b = o} {x = rest} {y = ys} h2 in
-        let x = live-only m xs l rest h1 in
-        let P : Option LiveValue → Type 0 = λ o. (live-bits o ≡ m / 2 % 16 * 2) × (xs ≡ live-fields o ++ ys) in
-        subst P f.0 (x.0 ∙ sym (live_map m g.0), x.1 ∙ ap (λ (z : List ℕ). live-fields (Some l) ++ z) f.1))
+        let x = live_only m xs l rest h1 in
+        let P : Option LiveValue → Type 0 = λ o. (live_bits o ≡ m / 2 % 16 * 2) × (xs ≡ live_fields o ++ ys) in
+        subst P f.0 (x.0 ∙ sym (live_map m g.0), x.1 ∙ ap (λ (z : List ℕ). live_fields (Some l) ++ z) f.1))
 
 low_bit : (m c : ℕ) → bit 0 m ≡ not (eqb c 0) → m % 2 ≡ cond (eqb c 0) 0 1
 low_bit m c e = by (eqb c 0) e
@@ -182,68 +182,68 @@ low_bit m c e = by (eqb c 0) e
     by false e = grind (arith, nat_tests)
 
 -- what the layout alone says of a record that was read
-record Laid_out (map len : ℕ) (xs : List ℕ) (r : RecordValue) (rest : List ℕ) : Type 0 where
-  pub container-fits : r.container ≤ 255
-  pub sequence-fits : r.entry.stamp.sequence ≤ 4294967295
+record LaidOut (map len : ℕ) (xs : List ℕ) (r : RecordValue) (rest : List ℕ) : Type 0 where
+  pub container_fits : r.container ≤ 255
+  pub sequence_fits : r.entry.stamp.sequence ≤ 4294967295
   pub map_is : map ≡ map_of r
   pub len_is : len ≡ length r.key
-  pub fields : xs ≡ r.key ++ (stamp-field r.entry.stamp ++ (container-field r.container ++ (live-fields r.entry.live ++ rest)))
+  pub fields : xs ≡ r.key ++ (stamp_field r.entry.stamp ++ (container_field r.container ++ (live_fields r.entry.live ++ rest)))
 
-fields-only : (map len : ℕ) (xs : List ℕ) (r : RecordValue) (rest : List ℕ) → take-fields map len xs ≡ Some (r, rest) → Laid_out map len xs r rest
-fields-only map len xs r rest h =
+fields_only : (map len : ℕ) (xs : List ℕ) (r : RecordValue) (rest : List ℕ) → take_fields map len xs ≡ Some (r, rest) → LaidOut map len xs r rest
+fields_only map len xs r rest h =
     let g = guard_passed _ _ _ h in
     let top : map / 32 ≡ 4 = eqb-true (map / 32) 4 g.0 in
     on_then (take_part len xs) _ (r, rest) g.1 (λ k xs1 h1 h2.
-    on_then (take-stamp xs1) _ (r, rest) h2 (λ s xs2 h3 h4.
-    on_then (take-container (bit 0 map) xs2) _ (r, rest) h4 (λ c xs3 h5 h6.
-    on_then (take-state map xs3) _ (r, rest) h6 (λ o xs4 h7 h8.
+    on_then (take_stamp xs1) _ (r, rest) h2 (λ s xs2 h3 h4.
+    on_then (take_container (bit 0 map) xs2) _ (r, rest) h4 (λ c xs3 h5 h6.
+    on_then (take_state map xs3) _ (r, rest) h6 (λ o xs4 h7 h8.
     let f = some_pair {A = RecordValue} {a = record { container = c; key = k; entry = record { stamp = s; live = o } }} {b = r} {x = xs4} {y = rest} h8 in
-    let x1 = part-only len xs k xs1 h1 in
-    let x2 = stamp-only xs1 s xs2 h3 in
-    let x3 = container-only (bit 0 map) xs2 c xs3 h5 in
-    let x4 = state-only map xs3 o xs4 h7 in
-    let e4 : xs3 ≡ live-fields o ++ rest = x4.1 ∙ ap (λ (z : List ℕ). live-fields o ++ z) f.1 in
-    let e3 : xs2 ≡ container-field c ++ (live-fields o ++ rest) = x3.2 ∙ ap (λ (z : List ℕ). container-field c ++ z) e4 in
-    let e2 : xs1 ≡ stamp-field s ++ (container-field c ++ (live-fields o ++ rest)) = x2.1 ∙ ap (λ (z : List ℕ). stamp-field s ++ z) e3 in
-    let e1 : xs ≡ k ++ (stamp-field s ++ (container-field c ++ (live-fields o ++ rest))) = x1.1 ∙ ap (λ (z : List ℕ). k ++ z) e2 in
+    let x1 = part_only len xs k xs1 h1 in
+    let x2 = stamp_only xs1 s xs2 h3 in
+    let x3 = container_only (bit 0 map) xs2 c xs3 h5 in
+    let x4 = state_only map xs3 o xs4 h7 in
+    let e4 : xs3 ≡ live_fields o ++ rest = x4.1 ∙ ap (λ (z : List ℕ). live_fields o ++ z) f.1 in
+    let e3 : xs2 ≡ container_field c ++ (live_fields o ++ rest) = x3.2 ∙ ap (λ (z : List ℕ). container_field c ++ z) e4 in
+    let e2 : xs1 ≡ stamp_field s ++ (container_field c ++ (live_fields o ++ rest)) = x2.1 ∙ ap (λ (z : List ℕ). stamp_field s ++ z) e3 in
+    let e1 : xs ≡ k ++ (stamp_field s ++ (container_field c ++ (live_fields o ++ rest))) = x1.1 ∙ ap (λ (z : List ℕ). k ++ z) e2 in
     let lb = low_bit map c x3.0 in
     let lv = x4.0 in
-    let mm : map ≡ 128 + cond (eqb c 0) 0 1 + live-bits o = omega arith in
-    let made : Laid_out map len xs (record { container = c; key = k; entry = record { stamp = s; live = o } }) rest =
-    record { container-fits = x3.1; sequence-fits = x2.0; map_is = mm; len_is = sym x1.0; fields = e1 } in
-    subst (λ r. Laid_out map len xs r rest) f.0 made))))
+    let mm : map ≡ 128 + cond (eqb c 0) 0 1 + live_bits o = omega arith in
+    let made : LaidOut map len xs (record { container = c; key = k; entry = record { stamp = s; live = o } }) rest =
+    record { container_fits = x3.1; sequence_fits = x2.0; map_is = mm; len_is = sym x1.0; fields = e1 } in
+    subst (λ r. LaidOut map len xs r rest) f.0 made))))
 
-live-kept : (o : Option LiveValue) → live-in-limits o ≡ true → IfSome o (λ l. valid-live l ≡ true)
-live-kept None v = tt
-live-kept (Some l) v = v
+live_kept : (o : Option LiveValue) → live_in_limits o ≡ true → IfSome o (λ l. valid_live l ≡ true)
+live_kept None v = tt
+live_kept (Some l) v = v
 
-valid-from : (r : RecordValue) → r.container ≤ 255 → r.entry.stamp.sequence ≤ 4294967295 → in-limits r ≡ true → Valid-record r
-valid-from r fits sequence v =
-    let a = and_parts (valid-key r.key) (valid-writer r.entry.stamp.writer && (live-in-limits r.entry.live && stamp-taken r.entry.stamp)) v in
-    let b = and_parts (valid-writer r.entry.stamp.writer) (live-in-limits r.entry.live && stamp-taken r.entry.stamp) a.1 in
-    let c = and_parts (live-in-limits r.entry.live) (stamp-taken r.entry.stamp) b.1 in
+valid_from : (r : RecordValue) → r.container ≤ 255 → r.entry.stamp.sequence ≤ 4294967295 → in_limits r ≡ true → ValidRecord r
+valid_from r fits sequence v =
+    let a = and_parts (valid_key r.key) (valid_writer r.entry.stamp.writer && (live_in_limits r.entry.live && stamp_taken r.entry.stamp)) v in
+    let b = and_parts (valid_writer r.entry.stamp.writer) (live_in_limits r.entry.live && stamp_taken r.entry.stamp) a.1 in
+    let c = and_parts (live_in_limits r.entry.live) (stamp_taken r.entry.stamp) b.1 in
     record {
-      container-fits = fits;
-      key-valid = a.0;
-      entry-valid = record {
-        stamp-known = record { sequence-fits = sequence; writer-known = leb-true _ _ b.0 };
+      container_fits = fits;
+      key_valid = a.0;
+      entry_valid = record {
+        stamp_known = record { sequence_fits = sequence; writer_known = leb-true _ _ b.0 };
         stamped = c.1;
-        live-fits = live-kept r.entry.live c.0;
+        live_fits = live_kept r.entry.live c.0;
       };
     }
 
-pub only-records-are-read : Only-records-are-read
+pub only_records_are_read : OnlyRecordsAreRead
 unfolding encode head_of parse
-only-records-are-read [] r rest h = absurd (grind arith)
-only-records-are-read (map ∷ []) r rest h = absurd (grind arith)
-only-records-are-read (map ∷ len ∷ xs) r rest h =
-    on_then (take-fields map len xs) _ (r, rest) h (λ q ys h1 h2.
-    let g = guard_passed (in-limits q) (Some (q, ys)) (r, rest) h2 in
+only_records_are_read [] r rest h = absurd (grind arith)
+only_records_are_read (map ∷ []) r rest h = absurd (grind arith)
+only_records_are_read (map ∷ len ∷ xs) r rest h =
+    on_then (take_fields map len xs) _ (r, rest) h (λ q ys h1 h2.
+    let g = guard_passed (in_limits q) (Some (q, ys)) (r, rest) h2 in
     let f = some_pair {A = RecordValue} {a = q} {b = r} {x = ys} {y = rest} g.1 in
-    let o = fields-only map len xs q ys h1 in
+    let o = fields_only map len xs q ys h1 in
     let m = o.map_is in
     let n = o.len_is in
-    let e : xs ≡ ((q.key ++ stamp-field q.entry.stamp) ++ (container-field q.container ++ live-fields q.entry.live)) ++ rest =
-    o.fields ∙ simp append_assoc (ap (λ (z : List ℕ). q.key ++ (stamp-field q.entry.stamp ++ (container-field q.container ++ (live-fields q.entry.live ++ z)))) f.1) in
-    subst (λ r. Valid-record r × ((map ∷ len ∷ xs) ≡ encode r ++ rest)) f.0
-    (valid-from q o.container-fits o.sequence-fits g.0, λ i. m i ∷ n i ∷ e i))
+    let e : xs ≡ ((q.key ++ stamp_field q.entry.stamp) ++ (container_field q.container ++ live_fields q.entry.live)) ++ rest =
+    o.fields ∙ simp append_assoc (ap (λ (z : List ℕ). q.key ++ (stamp_field q.entry.stamp ++ (container_field q.container ++ (live_fields q.entry.live ++ z)))) f.1) in
+    subst (λ r. ValidRecord r × ((map ∷ len ∷ xs) ≡ encode r ++ rest)) f.0
+    (valid_from q o.container_fits o.sequence_fits g.0, λ i. m i ∷ n i ∷ e i))

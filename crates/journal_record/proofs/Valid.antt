@@ -1,8 +1,8 @@
 -- Every record keeps its limits.
-use Rattle.naming.proofs.Keys.{key-is-valid}
-use Rattle.entry.proofs.Valid.{entry-is-valid}
+use Rattle.naming.proofs.Keys.{key_is_valid}
+use Rattle.entry.proofs.Valid.{entry_is_valid}
 use Rattle.journal_record.specs.declared.record.Record.{Record}
-use Rattle.journal_record.specs.Records.{Valid-record, record-value}
+use Rattle.journal_record.specs.Records.{ValidRecord, record_value}
 
-pub record-is-valid : (r : Record) → Valid-record (record-value r)
-record-is-valid r = record { container-fits = r.fits; key-valid = key-is-valid r.key; entry-valid = entry-is-valid r.entry }
+pub record_is_valid : (r : Record) → ValidRecord (record_value r)
+record_is_valid r = record { container_fits = r.fits; key_valid = key_is_valid r.key; entry_valid = entry_is_valid r.entry }

@@ -6,16 +6,16 @@ use Rattle.journal_record.specs.Layout.{encode}
 use Rattle.journal_record.specs.Written.{has_room, Written}
 
 module _ (out : List ℕ) (r : RecordValue) (bytes : List ℕ) (n : ℕ) (is : bytes ≡ encode r) (long : n ≡ length bytes) where
-  length-is : n ≡ length (encode r)
-  length-is = long ∙ ap length is
+  length_is : n ≡ length (encode r)
+  length_is = long ∙ ap length is
 
   pub not_written : length out < n → Written out r None out
   not_written h =
-      let l : has_room out r ≡ false = lt-leb _ _ (omega (arith, length-is)) in
+      let l : has_room out r ≡ false = lt-leb _ _ (omega (arith, length_is)) in
       record { len = rw l; after = rw l }
 
-  pub is-written : (out' : List ℕ) → n ≤ length out → out' ≡ bytes ++ drop n out → Written out r (Some n) out'
-  is-written out' h w =
-      let l : has_room out r ≡ true = le-leb _ _ (omega (arith, length-is)) in
-      let e = length-is in
+  pub is_written : (out' : List ℕ) → n ≤ length out → out' ≡ bytes ++ drop n out → Written out r (Some n) out'
+  is_written out' h w =
+      let l : has_room out r ≡ true = le-leb _ _ (omega (arith, length_is)) in
+      let e = length_is in
       record { len = rw l (ap Some e); after = rw l (w ∙ (λ i. is i ++ drop (e i) out)) }

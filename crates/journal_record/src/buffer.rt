@@ -1,7 +1,7 @@
 //! The place where the bytes of a record are put together.
 
 ghost use Rattle.std.specs.Prelude.{◌≡◌, ◌≤◌, length};
-ghost use Rattle.journal_record.specs.Layout.{longest-record};
+ghost use Rattle.journal_record.specs.Layout.{longest_record};
 
 mod methods;
 
@@ -12,6 +12,6 @@ const LONGEST_RECORD: usize = 75;
 pub struct Buffer {
     bytes: [u8; LONGEST_RECORD],
     len: usize,
-    ghost within: { len ≤ longest-record },
-    ghost size: { length bytes ≡ longest-record },
+    ghost within: { len ≤ longest_record },
+    ghost size: { length bytes ≡ longest_record },
 }

@@ -2,7 +2,7 @@
 
 ghost use Rattle.std.specs.Prelude.{◌≡◌, ◌<◌};
 ghost use Rattle.std.specs.Option.{option_map};
-ghost use Rattle.journal_record.specs.Parse.{bit, take-stamp, take-container, take-size, take-digest, take-live, take-state, take-fields, number_read, part-read, stamp-read, live-read, state-read, fields_read};
+ghost use Rattle.journal_record.specs.Parse.{bit, take_stamp, take_container, take_size, take_digest, take_live, take_state, take_fields, number_read, part_read, stamp_read, live_read, state_read, fields_read};
 
 use crate::front::{take_byte, take_part, take_u16, take_u32};
 
@@ -37,7 +37,7 @@ const LONG_DIGEST: u32 = 4;
 
 // The fields past the map and the key's length, and what follows them.
 pub(crate) fn take_fields(bytes: &[u8], map: u8, len: u8) -> Option<(Fields<'_>, &[u8])>
-    ensures { option_map fields_read result ≡ take-fields map len bytes.now }
+    ensures { option_map fields_read result ≡ take_fields map len bytes.now }
 {
     if map >> 5 != 0b100 {
         return None;
@@ -59,7 +59,7 @@ pub(crate) fn take_fields(bytes: &[u8], map: u8, len: u8) -> Option<(Fields<'_>,
 }
 
 fn take_stamp(bytes: &[u8]) -> Option<((u32, u8), &[u8])>
-    ensures { option_map stamp-read result ≡ take-stamp bytes.now }
+    ensures { option_map stamp_read result ≡ take_stamp bytes.now }
 {
     let (sequence, rest) = take_u32(bytes)?;
     let (writer, rest) = take_byte(rest)?;
@@ -67,7 +67,7 @@ fn take_stamp(bytes: &[u8]) -> Option<((u32, u8), &[u8])>
 }
 
 fn take_container(bytes: &[u8], present: bool) -> Option<(u8, &[u8])>
-    ensures { option_map number_read result ≡ take-container present bytes.now }
+    ensures { option_map number_read result ≡ take_container present bytes.now }
 {
     if !present {
         return Some((0, bytes));
@@ -80,7 +80,7 @@ fn take_container(bytes: &[u8], present: bool) -> Option<(u8, &[u8])>
 }
 
 fn take_state(bytes: &[u8], map: u8) -> Option<(Option<LiveFields<'_>>, &[u8])>
-    ensures { option_map state-read result ≡ take-state map bytes.now }
+    ensures { option_map state_read result ≡ take_state map bytes.now }
 {
     if (map >> 1) % 16 == 0 {
         return Some((None, bytes));
@@ -93,7 +93,7 @@ fn take_state(bytes: &[u8], map: u8) -> Option<(Option<LiveFields<'_>>, &[u8])>
 }
 
 fn take_live(bytes: &[u8], map: u8) -> Option<(LiveFields<'_>, &[u8])>
-    ensures { option_map live-read result ≡ take-live map bytes.now }
+    ensures { option_map live_read result ≡ take_live map bytes.now }
 {
     let (clouds, rest) = take_byte(bytes)?;
     let (size, rest) = take_size(rest, has(map, SIZE))?;
@@ -109,7 +109,7 @@ fn take_live(bytes: &[u8], map: u8) -> Option<(LiveFields<'_>, &[u8])>
 }
 
 fn take_size(bytes: &[u8], present: bool) -> Option<(u16, &[u8])>
-    ensures { option_map number_read result ≡ take-size present bytes.now }
+    ensures { option_map number_read result ≡ take_size present bytes.now }
 {
     if !present {
         return Some((0, bytes));
@@ -122,7 +122,7 @@ fn take_size(bytes: &[u8], present: bool) -> Option<(u16, &[u8])>
 }
 
 fn take_digest(bytes: &[u8], long: bool) -> Option<(&[u8], &[u8])>
-    ensures { option_map part-read result ≡ take-digest long bytes.now }
+    ensures { option_map part_read result ≡ take_digest long bytes.now }
 {
     take_part(bytes, if long { 32 } else { 20 })
 }

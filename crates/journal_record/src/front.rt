@@ -2,10 +2,10 @@
 
 ghost use Rattle.std.specs.Prelude.{◌≡◌, ◌<◌};
 ghost use Rattle.std.specs.Option.{option_map};
-ghost use Rattle.journal_record.specs.Parse.{take-byte, take-two, take-four, take_part, number_read, part-read};
+ghost use Rattle.journal_record.specs.Parse.{take_byte, take_two, take_four, take_part, number_read, part_read};
 
 pub(crate) fn take_byte(bytes: &[u8]) -> Option<(u8, &[u8])>
-    ensures { option_map number_read result ≡ take-byte bytes.now }
+    ensures { option_map number_read result ≡ take_byte bytes.now }
 {
     let [x, rest @ ..] = bytes else {
         return None;
@@ -15,7 +15,7 @@ pub(crate) fn take_byte(bytes: &[u8]) -> Option<(u8, &[u8])>
 
 // Two bytes, highest first.
 pub(crate) fn take_u16(bytes: &[u8]) -> Option<(u16, &[u8])>
-    ensures { option_map number_read result ≡ take-two bytes.now }
+    ensures { option_map number_read result ≡ take_two bytes.now }
 {
     let [a, b, rest @ ..] = bytes else {
         return None;
@@ -25,7 +25,7 @@ pub(crate) fn take_u16(bytes: &[u8]) -> Option<(u16, &[u8])>
 
 // Four bytes, highest first.
 pub(crate) fn take_u32(bytes: &[u8]) -> Option<(u32, &[u8])>
-    ensures { option_map number_read result ≡ take-four bytes.now }
+    ensures { option_map number_read result ≡ take_four bytes.now }
 {
     let [a, b, c, d, rest @ ..] = bytes else {
         return None;
@@ -34,7 +34,7 @@ pub(crate) fn take_u32(bytes: &[u8]) -> Option<(u32, &[u8])>
 }
 
 pub(crate) fn take_part(bytes: &[u8], len: usize) -> Option<(&[u8], &[u8])>
-    ensures { option_map part-read result ≡ take_part len bytes.now }
+    ensures { option_map part_read result ≡ take_part len bytes.now }
 {
     if bytes.len() < len {
         return None;

@@ -2,9 +2,9 @@
 
 ghost use Rattle.std.specs.Prelude.{◌≡◌, true, false, MatchOption};
 ghost use Rattle.std.specs.Option.{option_map};
-ghost use Rattle.journal_record.specs.Records.{record-value};
-ghost use Rattle.journal_record.specs.Laws.{Only-records-are-read};
-ghost use Rattle.journal_record.specs.Parse.{first-record, fields-of, in-limits, record-read};
+ghost use Rattle.journal_record.specs.Records.{record_value};
+ghost use Rattle.journal_record.specs.Laws.{OnlyRecordsAreRead};
+ghost use Rattle.journal_record.specs.Parse.{first_record, fields_of, in_limits, record_read};
 
 use crate::fields::{Fields, take_fields};
 use crate::record::Record;
@@ -16,8 +16,8 @@ use naming::stamp::Stamp;
 impl Record {
     /// The record at the front of the bytes, and how many of them it takes up.
     pub fn read(bytes: &[u8]) -> Option<(Record, usize)>
-        ensures value { option_map record-read result ≡ first-record bytes.now }
-        ensures only { Only-records-are-read }
+        ensures value { option_map record_read result ≡ first_record bytes.now }
+        ensures only { OnlyRecordsAreRead }
     {
         let [map, len, fields @ ..] = bytes else {
             return None;
@@ -30,7 +30,7 @@ impl Record {
 
 // The record of these fields, where they are in their limits.
 fn record_of(fields: Fields<'_>) -> Option<Record>
-    ensures { MatchOption result (in-limits (fields-of fields.entry) ≡ false) (λ x. (in-limits (fields-of fields.entry) ≡ true) × (record-value x ≡ fields-of fields.entry)) }
+    ensures { MatchOption result (in_limits (fields_of fields.entry) ≡ false) (λ x. (in_limits (fields_of fields.entry) ≡ true) × (record_value x ≡ fields_of fields.entry)) }
 {
     let key = Key::new(fields.key)?;
     let stamp = Stamp::new(fields.sequence, fields.writer)?;

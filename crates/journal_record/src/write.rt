@@ -2,12 +2,12 @@
 
 ghost use Rattle.std.specs.Prelude.{◌≡◌, ◌+◌, ◌≤◌, [], ◌∷◌, ◌++◌, length};
 ghost use Rattle.std.specs.Option.{option_map};
-ghost use Rattle.entry.specs.Entries.{live-value};
-ghost use Rattle.journal_record.specs.Records.{record-value};
-ghost use Rattle.journal_record.specs.Layout.{container-bit, container-field, digest-bit, encode, head_of, live-bits, live-fields, longest-record, map_of, size-bit, size-field};
+ghost use Rattle.entry.specs.Entries.{live_value};
+ghost use Rattle.journal_record.specs.Records.{record_value};
+ghost use Rattle.journal_record.specs.Layout.{container_bit, container_field, digest_bit, encode, head_of, live_bits, live_fields, longest_record, map_of, size_bit, size_field};
 ghost use Rattle.journal_record.specs.Buffer.{buffered};
 ghost use Rattle.journal_record.specs.Written.{Written};
-ghost use Rattle.journal_record.specs.Laws.{Records-read-back};
+ghost use Rattle.journal_record.specs.Laws.{RecordsReadBack};
 
 use crate::buffer::Buffer;
 use crate::record::Record;
@@ -16,15 +16,15 @@ use entry::live::Live;
 impl Record {
     /// How many bytes the record takes up.
     pub fn len(&self) -> usize
-        ensures { result ≡ length (encode (record-value self.now)) }
+        ensures { result ≡ length (encode (record_value self.now)) }
     {
         self.encoded().len()
     }
 
     /// Writes the record to the front of `out`, where there is room, and answers its length.
     pub fn write(&self, out: &mut [u8]) -> Option<usize>
-        ensures written { Written out.old (record-value self.now) result out.new }
-        ensures read_back { Records-read-back }
+        ensures written { Written out.old (record_value self.now) result out.new }
+        ensures read_back { RecordsReadBack }
     {
         let buffer = self.encoded();
         let len = buffer.len();
@@ -37,7 +37,7 @@ impl Record {
 
     // The bytes of the record.
     fn encoded(&self) -> Buffer
-        ensures { buffered result ≡ encode (record-value self.now) }
+        ensures { buffered result ≡ encode (record_value self.now) }
     {
         let mut buffer = self.head();
         append_container(&mut buffer, self.container());
@@ -47,7 +47,7 @@ impl Record {
 
     // The bytes that every record has.
     fn head(&self) -> Buffer
-        ensures { buffered result ≡ head_of (record-value self.now) }
+        ensures { buffered result ≡ head_of (record_value self.now) }
     {
         let mut buffer = Buffer::empty();
         let stamp = self.entry().stamp();
@@ -60,7 +60,7 @@ impl Record {
 
     // The bit map: which fields there are.
     fn map(&self) -> u8
-        ensures { result ≡ map_of (record-value self.now) }
+        ensures { result ≡ map_of (record_value self.now) }
     {
         let map = if self.container() == 0 { 0x80 } else { 0x81 };
         match self.entry().live() {
@@ -72,8 +72,8 @@ impl Record {
 
 // A container of 0 is left out.
 fn append_container(buffer: &mut Buffer, container: u8)
-    requires { length (buffered buffer.old) + 1 ≤ longest-record }
-    ensures { buffered buffer.new ≡ buffered buffer.old ++ container-field container }
+    requires { length (buffered buffer.old) + 1 ≤ longest_record }
+    ensures { buffered buffer.new ≡ buffered buffer.old ++ container_field container }
 {
     if container != 0 {
         buffer.append(&[container]);
@@ -82,8 +82,8 @@ fn append_container(buffer: &mut Buffer, container: u8)
 
 // A deleted entry has no fields of a value.
 fn append_live(buffer: &mut Buffer, live: Option<Live>)
-    requires { length (buffered buffer.old) + 35 ≤ longest-record }
-    ensures { buffered buffer.new ≡ buffered buffer.old ++ live-fields (option_map live-value live) }
+    requires { length (buffered buffer.old) + 35 ≤ longest_record }
+    ensures { buffered buffer.new ≡ buffered buffer.old ++ live_fields (option_map live_value live) }
 {
     if let Some(live) = live {
         buffer.append(&[live.clouds()]);
@@ -94,8 +94,8 @@ fn append_live(buffer: &mut Buffer, live: Option<Live>)
 
 // A size of 0 is left out.
 fn append_size(buffer: &mut Buffer, size: u16)
-    requires { length (buffered buffer.old) + 2 ≤ longest-record }
-    ensures { buffered buffer.new ≡ buffered buffer.old ++ size-field size }
+    requires { length (buffered buffer.old) + 2 ≤ longest_record }
+    ensures { buffered buffer.new ≡ buffered buffer.old ++ size_field size }
 {
     if size != 0 {
         buffer.append(&size.to_be_bytes());
@@ -104,7 +104,7 @@ fn append_size(buffer: &mut Buffer, size: u16)
 
 // The cloud list is always there, the size where it is not 0, and a digest of 20 or of 32 bytes.
 fn live_bits(live: &Live) -> u8
-    ensures value { result ≡ 2 + size-bit (live-value live.now).size + digest-bit (live-value live.now).digest }
+    ensures value { result ≡ 2 + size_bit (live_value live.now).size + digest_bit (live_value live.now).digest }
     ensures high { result ≤ 22 }
 {
     let size = if live.size() == 0 { 0 } else { 0b100 };

@@ -3,12 +3,12 @@
 ghost use Rattle.std.specs.Prelude.{◌≡◌, ℕ, ◌+◌, ◌≤◌, ◌∷◌, ◌++◌, length, take, drop};
 ghost use Rattle.std.specs.Option.{option_map};
 ghost use Rattle.bytemap.specs.Map.{beyond};
-ghost use Rattle.naming.specs.Keys.{key-bytes};
+ghost use Rattle.naming.specs.Keys.{key_bytes};
 ghost use Rattle.directory.specs.Meaning.{contents};
-ghost use Rattle.directory.specs.Calls.{entry_of, key-after};
-ghost use Rattle.protocol.specs.Grounds.{is-there, live_of};
-ghost use Rattle.protocol.specs.Listing.{keys_of, listing, live-keys};
-ghost use Rattle.listing.specs.Walk.{keys_from, listed, listed-over, measured};
+ghost use Rattle.directory.specs.Calls.{entry_of, key_after};
+ghost use Rattle.protocol.specs.Grounds.{is_there, live_of};
+ghost use Rattle.protocol.specs.Listing.{keys_of, listing, live_keys};
+ghost use Rattle.listing.specs.Walk.{keys_from, listed, listed_over, measured};
 
 use directory::interface::Directory;
 use naming::key::Key;
@@ -18,7 +18,7 @@ use protocol::answers::Listed;
 /// buffer stays. Where they do not fit, there is no answer, and the buffer stays as it was.
 pub fn list<D: Directory>(directory: &mut D, container: u8, buffer: &mut [u8]) -> Option<Listed>
     ensures answer { result ≡ listed (keys_of (meaning directory.old) container) buffer.old }
-    ensures written { buffer.new ≡ listed-over (keys_of (meaning directory.old) container) buffer.old }
+    ensures written { buffer.new ≡ listed_over (keys_of (meaning directory.old) container) buffer.old }
     ensures same { meaning directory.new ≡ meaning directory.old }
 {
     let size = measure(directory, container);
@@ -61,7 +61,7 @@ fn write<D: Directory>(directory: &mut D, container: u8, buffer: &mut [u8])
 
 // The container's smallest live key above these bytes.
 fn next_live<D: Directory>(directory: &mut D, container: u8, above: &[u8]) -> Option<Key>
-    ensures value { keys_from (contents container (meaning directory.old).entries) result ≡ live-keys (beyond above.now (contents container (meaning directory.old).entries)) }
+    ensures value { keys_from (contents container (meaning directory.old).entries) result ≡ live_keys (beyond above.now (contents container (meaning directory.old).entries)) }
     ensures same { meaning directory.new ≡ meaning directory.old }
 {
     let mut next = next_key(directory, container, above);
@@ -76,7 +76,7 @@ fn next_live<D: Directory>(directory: &mut D, container: u8, above: &[u8]) -> Op
 
 // The container's smallest key above these bytes, live or deleted.
 fn next_key<D: Directory>(directory: &mut D, container: u8, above: &[u8]) -> Option<Key>
-    ensures value { option_map key-bytes result ≡ key-after (meaning directory.old) container above.now }
+    ensures value { option_map key_bytes result ≡ key_after (meaning directory.old) container above.now }
     ensures same { meaning directory.new ≡ meaning directory.old }
 {
     let mut place = [0; 32];
@@ -86,7 +86,7 @@ fn next_key<D: Directory>(directory: &mut D, container: u8, above: &[u8]) -> Opt
 }
 
 fn is_live<D: Directory>(directory: &mut D, container: u8, key: &Key) -> bool
-    ensures value { result ≡ is-there (live_of (entry_of (meaning directory.old) container (key-bytes key.now))) }
+    ensures value { result ≡ is_there (live_of (entry_of (meaning directory.old) container (key_bytes key.now))) }
     ensures same { meaning directory.new ≡ meaning directory.old }
 {
     match directory.look(container, key) {
@@ -97,9 +97,9 @@ fn is_live<D: Directory>(directory: &mut D, container: u8, key: &Key) -> bool
 
 // Writes a key with its length before it, and answers where they end.
 fn put_key(buffer: &mut [u8], at: usize, key: &Key) -> usize
-    requires { at + (1 + length (key-bytes key.now)) ≤ length buffer.old }
-    ensures end { result ≡ at + (1 + length (key-bytes key.now)) }
-    ensures front { take result buffer.new ≡ take at buffer.old ++ (length (key-bytes key.now) ∷ key-bytes key.now) }
+    requires { at + (1 + length (key_bytes key.now)) ≤ length buffer.old }
+    ensures end { result ≡ at + (1 + length (key_bytes key.now)) }
+    ensures front { take result buffer.new ≡ take at buffer.old ++ (length (key_bytes key.now) ∷ key_bytes key.now) }
     ensures rest { (n : ℕ) → result ≤ n → drop n buffer.new ≡ drop n buffer.old }
 {
     let middle = put(buffer, at, &[key.len() as u8]);

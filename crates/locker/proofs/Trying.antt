@@ -7,108 +7,108 @@ use Rattle.refusal.specs.declared.Refusal.TheVariants.{UnknownParty, UnknownClou
 use Rattle.naming.specs.Names.{name_of}
 use Rattle.entry.specs.Entries.{lists}
 use Rattle.cloud.specs.Meaning.{CloudMeaning}
-use Rattle.cloud.specs.Outcomes.{Length, Get-outcome}
+use Rattle.cloud.specs.Outcomes.{Length, GetOutcome}
 use Rattle.row.specs.Rows.{Called, If}
 use Rattle.directory.specs.Meaning.{DirectoryMeaning}
-use Rattle.protocol.specs.Slots.{SlotValue, FetchingValue, idle, saving, fetching, sweeping, is-fetching, of-fetching}
-use Rattle.protocol.specs.State.{Setting, State, valid-party, slot_of, with-slot, with-clouds}
-use Rattle.protocol.specs.Calls.{try-cloud}
+use Rattle.protocol.specs.Slots.{SlotValue, FetchingValue, idle, saving, fetching, sweeping, is_fetching, of_fetching}
+use Rattle.protocol.specs.State.{Setting, State, valid_party, slot_of, with_slot, with_clouds}
+use Rattle.protocol.specs.Calls.{try_cloud}
 use Rattle.protocol.specs.Events.{tried}
-use Rattle.protocol.specs.Grounds.{first-ground}
-use Rattle.protocol.specs.Steps.{or-refused, fetching-of, is-saved-value, try-answer, after_try, Step}
+use Rattle.protocol.specs.Grounds.{first_ground}
+use Rattle.protocol.specs.Steps.{or_refused, fetching_of, is_saved_value, try_answer, after_try, Step}
 use Rattle.slots.specs.declared.slot.Asked.TheVariants.{Try}
 use Rattle.slots.specs.Values.{when}
-use Rattle.slots.specs.Asked.{slot-ground}
+use Rattle.slots.specs.Asked.{slot_ground}
 use Rattle.trying.specs.Tried.{Tried}
-use Rattle.locker.specs.Held.{by-ground}
-use Rattle.locker.proofs.Grounds.{refusing, allowing, passed, known-party, or-first, two}
+use Rattle.locker.specs.Held.{by_ground}
+use Rattle.locker.proofs.Grounds.{refusing, allowing, passed, known_party, or_first, two}
 
 -- ---- the checks before
 
 -- the buffer is too short for what is fetched
-abbrev pub room-ground : SlotValue → List ℕ → Option Refusal
-room-ground slot b = cond (of-fetching slot (λ x. ltb (length b) x.live.size) || false) (Some BufferTooShort) None
+abbrev pub room_ground : SlotValue → List ℕ → Option Refusal
+room_ground slot b = cond (of_fetching slot (λ x. ltb (length b) x.live.size) || false) (Some BufferTooShort) None
 
 module _ (S : Setting) (s : State) (p n i : ℕ) (b : List ℕ)
-    (party : Ok n ≡ or-refused (when (not (valid-party p)) UnknownParty) p)
-    (there : Ok (tt {0}) ≡ or-refused (when (leb S.clouds i) UnknownCloud) (tt {0})) where
-  ground-is : first-ground S (try-cloud n i b) s ≡ or-first (slot-ground S.faults (slot_of s n) (Try i)) (room-ground (slot_of s n) b)
-  ground-is =
-      rw ((known-party p n party).0, (passed (leb S.clouds i) UnknownCloud (tt {0}) (tt {0}) there).0)
-      (two (not (is-fetching (slot_of s n))) (of-fetching (slot_of s n) (λ x. not (lists x.live.clouds i))) SlotNotReady CloudNotListed (room-ground (slot_of s n) b))
+    (party : Ok n ≡ or_refused (when (not (valid_party p)) UnknownParty) p)
+    (there : Ok (tt {0}) ≡ or_refused (when (leb S.clouds i) UnknownCloud) (tt {0})) where
+  ground_is : first_ground S (try_cloud n i b) s ≡ or_first (slot_ground S.faults (slot_of s n) (Try i)) (room_ground (slot_of s n) b)
+  ground_is =
+      rw ((known_party p n party).0, (passed (leb S.clouds i) UnknownCloud (tt {0}) (tt {0}) there).0)
+      (two (not (is_fetching (slot_of s n))) (of_fetching (slot_of s n) (λ x. not (lists x.live.clouds i))) SlotNotReady CloudNotListed (room_ground (slot_of s n) b))
 
-  pub try-judged : (e : Refusal) → Err e ≡ or-refused (slot-ground S.faults (get_or s.slots (n - 1) idle) (Try i)) (tt {0}) → first-ground S (try-cloud p i b) s ≡ Some e
-  try-judged e judged =
-      subst (λ (k : ℕ). first-ground S (try-cloud k i b) s ≡ Some e) (known-party p n party).1
-      (ground-is ∙ ap (λ o. or-first o (room-ground (slot_of s n) b)) (refusing (slot-ground S.faults (slot_of s n) (Try i)) e (tt {0}) judged))
+  pub try_judged : (e : Refusal) → Err e ≡ or_refused (slot_ground S.faults (get_or s.slots (n - 1) idle) (Try i)) (tt {0}) → first_ground S (try_cloud p i b) s ≡ Some e
+  try_judged e judged =
+      subst (λ (k : ℕ). first_ground S (try_cloud k i b) s ≡ Some e) (known_party p n party).1
+      (ground_is ∙ ap (λ o. or_first o (room_ground (slot_of s n) b)) (refusing (slot_ground S.faults (slot_of s n) (Try i)) e (tt {0}) judged))
 
-  pub try-allowed : Ok (tt {0}) ≡ or-refused (slot-ground S.faults (get_or s.slots (n - 1) idle) (Try i)) (tt {0}) → not (is-fetching (slot_of s n)) ≡ false
-      → first-ground S (try-cloud p i b) s ≡ cond (ltb (length b) (fetching-of (slot_of s p)).live.size) (Some BufferTooShort) None
-  try-allowed judged is =
-      subst (λ (k : ℕ). first-ground S (try-cloud k i b) s ≡ cond (ltb (length b) (fetching-of (slot_of s k)).live.size) (Some BufferTooShort) None) (known-party p n party).1
-      (ground-is ∙ ap (λ o. or-first o (room-ground (slot_of s n) b)) (allowing (slot-ground S.faults (slot_of s n) (Try i)) (tt {0}) (tt {0}) judged).0 ∙ room (slot_of s n) is)
+  pub try_allowed : Ok (tt {0}) ≡ or_refused (slot_ground S.faults (get_or s.slots (n - 1) idle) (Try i)) (tt {0}) → not (is_fetching (slot_of s n)) ≡ false
+      → first_ground S (try_cloud p i b) s ≡ cond (ltb (length b) (fetching_of (slot_of s p)).live.size) (Some BufferTooShort) None
+  try_allowed judged is =
+      subst (λ (k : ℕ). first_ground S (try_cloud k i b) s ≡ cond (ltb (length b) (fetching_of (slot_of s k)).live.size) (Some BufferTooShort) None) (known_party p n party).1
+      (ground_is ∙ ap (λ o. or_first o (room_ground (slot_of s n) b)) (allowing (slot_ground S.faults (slot_of s n) (Try i)) (tt {0}) (tt {0}) judged).0 ∙ room (slot_of s n) is)
     where
-      or-false : (t : Bool) → (t || false) ≡ t
-      or-false true = refl
-      or-false false = refl
+      or_false : (t : Bool) → (t || false) ≡ t
+      or_false true = refl
+      or_false false = refl
 
-      room : (slot : SlotValue) → not (is-fetching slot) ≡ false → room-ground slot b ≡ cond (ltb (length b) (fetching-of slot).live.size) (Some BufferTooShort) None
+      room : (slot : SlotValue) → not (is_fetching slot) ≡ false → room_ground slot b ≡ cond (ltb (length b) (fetching_of slot).live.size) (Some BufferTooShort) None
       room idle h = absurd (grind arith)
       room (saving x) h = absurd (grind arith)
-      room (fetching x) h = ap (λ t. cond t (Some BufferTooShort) None) (or-false (ltb (length b) x.live.size))
+      room (fetching x) h = ap (λ t. cond t (Some BufferTooShort) None) (or_false (ltb (length b) x.live.size))
       room (sweeping x) h = absurd (grind arith)
 
 -- the fetch that the slot has
-pub fetch-there : (s : State) (p n : ℕ) (x : FetchingValue) → n ≡ p
-    → Ok x ≡ or-refused (when (not (is-fetching (get_or s.slots (n - 1) idle))) SlotNotReady) (fetching-of (get_or s.slots (n - 1) idle))
-    → (not (is-fetching (slot_of s n)) ≡ false) × (x ≡ fetching-of (slot_of s p))
-fetch-there s p n x same there =
-    let is = passed (not (is-fetching (slot_of s n))) SlotNotReady x (fetching-of (slot_of s n)) there in
-    (is.0, is.1 ∙ ap (λ (k : ℕ). fetching-of (slot_of s k)) same)
+pub fetch_there : (s : State) (p n : ℕ) (x : FetchingValue) → n ≡ p
+    → Ok x ≡ or_refused (when (not (is_fetching (get_or s.slots (n - 1) idle))) SlotNotReady) (fetching_of (get_or s.slots (n - 1) idle))
+    → (not (is_fetching (slot_of s n)) ≡ false) × (x ≡ fetching_of (slot_of s p))
+fetch_there s p n x same there =
+    let is = passed (not (is_fetching (slot_of s n))) SlotNotReady x (fetching_of (slot_of s n)) there in
+    (is.0, is.1 ∙ ap (λ (k : ℕ). fetching_of (slot_of s k)) same)
 
 -- ---- what is left
 
-left-by-failure : (S : Setting) (s : State) (p i : ℕ) (x : FetchingValue) (said : Length) (part : List ℕ) (e : Refusal) → Err e ≡ try-answer S x i said part → after_try S s p x said part ≡ s
-left-by-failure S s p i x (Err c) part e h = refl
-left-by-failure S s p i x (Ok n) part e h =
-    ⊎_elim (λ (t : is-saved-value S x.live n part ≡ true). absurd (let no : Err e ≡ Ok x.live.size = h ∙ ap (λ b. cond b (Ok x.live.size) (Err ValueMismatch)) t in grind arith))
-    (λ (f : is-saved-value S x.live n part ≡ false). ap (λ b. cond b (with-slot s p idle) s) f)
-    (cases_Bool (is-saved-value S x.live n part))
+left_by_failure : (S : Setting) (s : State) (p i : ℕ) (x : FetchingValue) (said : Length) (part : List ℕ) (e : Refusal) → Err e ≡ try_answer S x i said part → after_try S s p x said part ≡ s
+left_by_failure S s p i x (Err c) part e h = refl
+left_by_failure S s p i x (Ok n) part e h =
+    ⊎_elim (λ (t : is_saved_value S x.live n part ≡ true). absurd (let no : Err e ≡ Ok x.live.size = h ∙ ap (λ b. cond b (Ok x.live.size) (Err ValueMismatch)) t in grind arith))
+    (λ (f : is_saved_value S x.live n part ≡ false). ap (λ b. cond b (with_slot s p idle) s) f)
+    (cases_Bool (is_saved_value S x.live n part))
 
-left-by-success : (S : Setting) (s : State) (p i : ℕ) (x : FetchingValue) (said : Length) (part : List ℕ) (k : ℕ) → Ok k ≡ try-answer S x i said part → after_try S s p x said part ≡ with-slot s p idle
-left-by-success S s p i x (Err c) part k h = absurd (grind arith)
-left-by-success S s p i x (Ok n) part k h =
-    ⊎_elim (λ (t : is-saved-value S x.live n part ≡ true). ap (λ b. cond b (with-slot s p idle) s) t)
-    (λ (f : is-saved-value S x.live n part ≡ false). absurd (let no : Ok k ≡ Err ValueMismatch = h ∙ ap (λ b. cond b (Ok x.live.size) (Err ValueMismatch)) f in grind arith))
-    (cases_Bool (is-saved-value S x.live n part))
+left_by_success : (S : Setting) (s : State) (p i : ℕ) (x : FetchingValue) (said : Length) (part : List ℕ) (k : ℕ) → Ok k ≡ try_answer S x i said part → after_try S s p x said part ≡ with_slot s p idle
+left_by_success S s p i x (Err c) part k h = absurd (grind arith)
+left_by_success S s p i x (Ok n) part k h =
+    ⊎_elim (λ (t : is_saved_value S x.live n part ≡ true). ap (λ b. cond b (with_slot s p idle) s) t)
+    (λ (f : is_saved_value S x.live n part ≡ false). absurd (let no : Ok k ≡ Err ValueMismatch = h ∙ ap (λ b. cond b (Ok x.live.size) (Err ValueMismatch)) f in grind arith))
+    (cases_Bool (is_saved_value S x.live n part))
 
 -- ---- the ends: refused before, and asked, over any row
 
-pub try-refused : (S : Setting) (s : State) (p i : ℕ) (b : List ℕ) (r : Result ℕ Refusal) (e : Refusal) → first-ground S (try-cloud p i b) s ≡ Some e → r ≡ Err e → Step S s (tried p i b b r) s
-try-refused S s p i b r e g h = rw g ((h, refl), refl)
+pub try_refused : (S : Setting) (s : State) (p i : ℕ) (b : List ℕ) (r : Result ℕ Refusal) (e : Refusal) → first_ground S (try_cloud p i b) s ≡ Some e → r ≡ Err e → Step S s (tried p i b b r) s
+try_refused S s p i b r e g h = rw g ((h, refl), refl)
 
 module _ {Row : Type 0} (clouds : Row → List CloudMeaning) (gets : Row → ℕ → List ℕ → List ℕ → Length → List ℕ → Row → Type 0)
-    (getting : (s : Row) (i : ℕ) (name part : List ℕ) (r : Length) (part' : List ℕ) (t : Row) → gets s i name part r part' t → Called (clouds s) i (clouds t) (λ m m'. Get-outcome m name part r part' m') ((r ≡ Err Silent) × (part' ≡ part)))
+    (getting : (s : Row) (i : ℕ) (name part : List ℕ) (r : Length) (part' : List ℕ) (t : Row) → gets s i name part r part' t → Called (clouds s) i (clouds t) (λ m m'. GetOutcome m name part r part' m') ((r ≡ Err Silent) × (part' ≡ part)))
     (S : Setting) (d : DirectoryMeaning) (ss : List SlotValue) (row row' : Row) (p i : ℕ) (b b' : List ℕ) where
   abbrev before : State
   before = record { directory = d; clouds = clouds row; slots = ss }
 
   abbrev x : FetchingValue
-  x = fetching-of (slot_of before p)
+  x = fetching_of (slot_of before p)
 
   -- what is known of a try for the fetch y that answered r
-  abbrev pub Tried-for : FetchingValue → Result ℕ Refusal → Type 0
-  Tried-for y r = Tried (λ said got. gets row i (name_of y.container y.key y.stamp) (take y.live.size b) said got row') S.digested i y b b' r
+  abbrev pub TriedFor : FetchingValue → Result ℕ Refusal → Type 0
+  TriedFor y r = Tried (λ said got. gets row i (name_of y.container y.key y.stamp) (take y.live.size b) said got row') S.digested i y b b' r
 
-  abbrev pub Try-end : FetchingValue → Result ℕ Refusal → Type 0
-  Try-end y r = If (ltb (length b) y.live.size) ((r ≡ Err BufferTooShort) × ((b' ≡ b) × (row' ≡ row))) (Tried-for y r)
+  abbrev pub TryEnd : FetchingValue → Result ℕ Refusal → Type 0
+  TryEnd y r = If (ltb (length b) y.live.size) ((r ≡ Err BufferTooShort) × ((b' ≡ b) × (row' ≡ row))) (TriedFor y r)
 
   abbrev pub Ends : Result ℕ Refusal → List SlotValue → Type 0
   Ends r ss' =
       Step S before (tried p i b b' r) (record { directory = d; clouds = clouds row'; slots = ss' })
-      × by-ground (first-ground S (try-cloud p i b) before) (Tried-for x r) (row' ≡ row)
+      × by_ground (first_ground S (try_cloud p i b) before) (TriedFor x r) (row' ≡ row)
 
-  asked : (r : Result ℕ Refusal) (ss' : List SlotValue) → first-ground S (try-cloud p i b) before ≡ None → (t : Tried-for x r)
+  asked : (r : Result ℕ Refusal) (ss' : List SlotValue) → first_ground S (try_cloud p i b) before ≡ None → (t : TriedFor x r)
       → record { directory = d; clouds = clouds row; slots = ss' } ≡ after_try S before p x t.said t.part → Ends r ss'
   asked r ss' ground t left =
       rw ground (
@@ -120,35 +120,35 @@ module _ {Row : Type 0} (clouds : Row → List CloudMeaning) (gets : Row → ℕ
             cloud = getting row i (name_of x.container x.key x.stamp) (take x.live.size b) t.said t.part row' t.asked;
             answers = t.answers;
             writes = t.writes;
-            leaves = ap (λ (u : State). with-clouds u (clouds row')) left;
+            leaves = ap (λ (u : State). with_clouds u (clouds row')) left;
           },
           tt,
         ),
         t,
       )
 
-  pub try-failed : (e : Refusal) → first-ground S (try-cloud p i b) before ≡ cond (ltb (length b) x.live.size) (Some BufferTooShort) None → Try-end x (Err e) → Ends (Err e) ss
-  try-failed e ground end =
+  pub try_failed : (e : Refusal) → first_ground S (try_cloud p i b) before ≡ cond (ltb (length b) x.live.size) (Some BufferTooShort) None → TryEnd x (Err e) → Ends (Err e) ss
+  try_failed e ground end =
       ⊎_elim
       (λ (t : ltb (length b) x.live.size ≡ true).
       let f : (Err e ≡ Err BufferTooShort) × ((b' ≡ b) × (row' ≡ row)) = rw t at end in
-      let g : first-ground S (try-cloud p i b) before ≡ Some BufferTooShort = ground ∙ ap (λ q. cond q (Some BufferTooShort) None) t in
+      let g : first_ground S (try_cloud p i b) before ≡ Some BufferTooShort = ground ∙ ap (λ q. cond q (Some BufferTooShort) None) t in
       rw g (((f.0, ap (λ (q : Row). record { directory = d; clouds = clouds q; slots = ss }) f.1.1), f.1.0), f.1.1))
       (λ (t : ltb (length b) x.live.size ≡ false).
-      let f : Tried-for x (Err e) = rw t at end in
-      let g : first-ground S (try-cloud p i b) before ≡ None = ground ∙ ap (λ q. cond q (Some BufferTooShort) None) t in
-      asked (Err e) ss g f (sym (left-by-failure S before p i x f.said f.part e f.answers)))
+      let f : TriedFor x (Err e) = rw t at end in
+      let g : first_ground S (try_cloud p i b) before ≡ None = ground ∙ ap (λ q. cond q (Some BufferTooShort) None) t in
+      asked (Err e) ss g f (sym (left_by_failure S before p i x f.said f.part e f.answers)))
       (cases_Bool (ltb (length b) x.live.size))
 
-  pub try-done : (k : ℕ) (ss' : List SlotValue) → first-ground S (try-cloud p i b) before ≡ cond (ltb (length b) x.live.size) (Some BufferTooShort) None → Try-end x (Ok k) → ss' ≡ set ss (p - 1) idle → Ends (Ok k) ss'
-  try-done k ss' ground end turned =
+  pub try_done : (k : ℕ) (ss' : List SlotValue) → first_ground S (try_cloud p i b) before ≡ cond (ltb (length b) x.live.size) (Some BufferTooShort) None → TryEnd x (Ok k) → ss' ≡ set ss (p - 1) idle → Ends (Ok k) ss'
+  try_done k ss' ground end turned =
       ⊎_elim
       (λ (t : ltb (length b) x.live.size ≡ true).
       let f : (Ok k ≡ Err BufferTooShort) × ((b' ≡ b) × (row' ≡ row)) = rw t at end in
       absurd (let no = f.0 in grind arith))
       (λ (t : ltb (length b) x.live.size ≡ false).
-      let f : Tried-for x (Ok k) = rw t at end in
-      let g : first-ground S (try-cloud p i b) before ≡ None = ground ∙ ap (λ q. cond q (Some BufferTooShort) None) t in
+      let f : TriedFor x (Ok k) = rw t at end in
+      let g : first_ground S (try_cloud p i b) before ≡ None = ground ∙ ap (λ q. cond q (Some BufferTooShort) None) t in
       asked (Ok k) ss' g f
-      (ap (λ (q : List SlotValue). record { directory = d; clouds = clouds row; slots = q }) turned ∙ sym (left-by-success S before p i x f.said f.part k f.answers)))
+      (ap (λ (q : List SlotValue). record { directory = d; clouds = clouds row; slots = q }) turned ∙ sym (left_by_success S before p i x f.said f.part k f.answers)))
       (cases_Bool (ltb (length b) x.live.size))

@@ -2,15 +2,15 @@
 
 ghost use Rattle.std.specs.Prelude.{◌≡◌, not, nat_le};
 ghost use Rattle.refusal.specs.declared.Refusal.TheVariants.{NoEntry, SequenceExhausted, DirectoryFull};
-ghost use Rattle.naming.specs.Keys.{key-bytes};
-ghost use Rattle.naming.specs.Limits.{greatest-sequence};
-ghost use Rattle.naming.specs.Stamps.{stamp-value, next-stamp};
+ghost use Rattle.naming.specs.Keys.{key_bytes};
+ghost use Rattle.naming.specs.Limits.{greatest_sequence};
+ghost use Rattle.naming.specs.Stamps.{stamp_value, next_stamp};
 ghost use Rattle.entry.specs.Entries.{entry_value};
-ghost use Rattle.directory.specs.Calls.{entry_of, stamp-of, commit-answer, commit-after};
-ghost use Rattle.protocol.specs.Grounds.{is-there, live_of, is-full};
-ghost use Rattle.protocol.specs.Steps.{or-refused, or_kept, fetch-of, commit-outcome};
-ghost use Rattle.slots.specs.Values.{answered, party-number, when};
-ghost use Rattle.locker.specs.Held.{fetch-slot, entry-or-none};
+ghost use Rattle.directory.specs.Calls.{entry_of, stamp_of, commit_answer, commit_after};
+ghost use Rattle.protocol.specs.Grounds.{is_there, live_of, is_full};
+ghost use Rattle.protocol.specs.Steps.{or_refused, or_kept, fetch_of, commit_outcome};
+ghost use Rattle.slots.specs.Values.{answered, party_number, when};
+ghost use Rattle.locker.specs.Held.{fetch_slot, entry_or_none};
 
 use directory::interface::{CommitAnswer, Directory};
 use entry::entry::Entry;
@@ -28,7 +28,7 @@ pub(crate) fn next_stamp<D: Directory>(
     key: &Key,
     party: Party,
 ) -> Result<Stamp, Refusal>
-    ensures value { answered stamp-value result ≡ or-refused (when (nat_le greatest-sequence (stamp-of (entry_of (meaning directory.old) container (key-bytes key.now))).sequence) SequenceExhausted) (next-stamp (stamp-of (entry_of (meaning directory.old) container (key-bytes key.now))) (party-number party)) }
+    ensures value { answered stamp_value result ≡ or_refused (when (nat_le greatest_sequence (stamp_of (entry_of (meaning directory.old) container (key_bytes key.now))).sequence) SequenceExhausted) (next_stamp (stamp_of (entry_of (meaning directory.old) container (key_bytes key.now))) (party_number party)) }
     ensures same { meaning directory.new ≡ meaning directory.old }
 {
     let last = match directory.look(container, key) {
@@ -40,7 +40,7 @@ pub(crate) fn next_stamp<D: Directory>(
 
 /// A fetch of the key as it stands in the directory, if it has a value.
 pub(crate) fn fetch_of<D: Directory>(directory: &mut D, container: u8, key: Key) -> Option<Fetching>
-    ensures value { fetch-slot result ≡ fetch-of container (key-bytes key) (stamp-of (entry_of (meaning directory.old) container (key-bytes key))) (live_of (entry_of (meaning directory.old) container (key-bytes key))) }
+    ensures value { fetch_slot result ≡ fetch_of container (key_bytes key) (stamp_of (entry_of (meaning directory.old) container (key_bytes key))) (live_of (entry_of (meaning directory.old) container (key_bytes key))) }
     ensures same { meaning directory.new ≡ meaning directory.old }
 {
     let entry = directory.look(container, &key)?;
@@ -59,7 +59,7 @@ pub(crate) fn live_entry<D: Directory>(
     container: u8,
     key: &Key,
 ) -> Result<Entry, Refusal>
-    ensures value { answered entry_value result ≡ or-refused (when (not (is-there (live_of (entry_of (meaning directory.old) container (key-bytes key.now))))) NoEntry) (entry-or-none (entry_of (meaning directory.old) container (key-bytes key.now))) }
+    ensures value { answered entry_value result ≡ or_refused (when (not (is_there (live_of (entry_of (meaning directory.old) container (key_bytes key.now))))) NoEntry) (entry_or_none (entry_of (meaning directory.old) container (key_bytes key.now))) }
     ensures same { meaning directory.new ≡ meaning directory.old }
 {
     let Some(entry) = directory.look(container, key) else {
@@ -73,7 +73,7 @@ pub(crate) fn live_entry<D: Directory>(
 
 /// The stamp of the write after this one.
 pub(crate) fn stamp_after(last: Stamp, party: Party) -> Result<Stamp, Refusal>
-    ensures { answered stamp-value result ≡ or-refused (when (nat_le greatest-sequence (stamp-value last).sequence) SequenceExhausted) (next-stamp (stamp-value last) (party-number party)) }
+    ensures { answered stamp_value result ≡ or_refused (when (nat_le greatest_sequence (stamp_value last).sequence) SequenceExhausted) (next_stamp (stamp_value last) (party_number party)) }
 {
     match last.next(party.number()) {
         Some(stamp) => Ok(stamp),
@@ -88,8 +88,8 @@ pub(crate) fn commit_entry<D: Directory>(
     key: &Key,
     entry: &Entry,
 ) -> Result<CommitOutcome, Refusal>
-    ensures value { result ≡ or-refused (when (is-full (commit-answer (meaning directory.old) container (key-bytes key.now) (entry_value entry.now))) DirectoryFull) (commit-outcome (commit-answer (meaning directory.old) container (key-bytes key.now) (entry_value entry.now))) }
-    ensures after { meaning directory.new ≡ or_kept (when (is-full (commit-answer (meaning directory.old) container (key-bytes key.now) (entry_value entry.now))) DirectoryFull) (meaning directory.old) (commit-after (meaning directory.old) container (key-bytes key.now) (entry_value entry.now)) }
+    ensures value { result ≡ or_refused (when (is_full (commit_answer (meaning directory.old) container (key_bytes key.now) (entry_value entry.now))) DirectoryFull) (commit_outcome (commit_answer (meaning directory.old) container (key_bytes key.now) (entry_value entry.now))) }
+    ensures after { meaning directory.new ≡ or_kept (when (is_full (commit_answer (meaning directory.old) container (key_bytes key.now) (entry_value entry.now))) DirectoryFull) (meaning directory.old) (commit_after (meaning directory.old) container (key_bytes key.now) (entry_value entry.now)) }
 {
     match directory.commit(container, key, entry) {
         CommitAnswer::Committed => Ok(CommitOutcome::Committed),

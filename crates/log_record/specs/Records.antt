@@ -1,7 +1,7 @@
 -- The records of a log: how one is written in bytes, and which records bytes hold.
 use Rattle.std.specs.Prelude.{◌≡◌, ℕ, zero, suc, ◌+◌, ◌*◌, ◌/◌, ◌%◌, Bool, true, cond, ◌&&◌, List, [], ◌∷◌, ◌++◌, length, take, drop, ◌==◌, nat_le, slice_index}
 use Rattle.std.specs.List.{flat_map}
-use Rattle.cloud.specs.Meaning.{longest-name, longest-value}
+use Rattle.cloud.specs.Meaning.{longest_name, longest_value}
 
 pub data Record : Type 0 where
   -- a value put under a name
@@ -11,8 +11,8 @@ pub data Record : Type 0 where
 
 -- names and values are of limited length
 abbrev pub valid : Record → Bool
-valid (stored name value) = nat_le (length name) longest-name && nat_le (length value) longest-value
-valid (dropped name) = nat_le (length name) longest-name
+valid (stored name value) = nat_le (length name) longest_name && nat_le (length value) longest_value
+valid (dropped name) = nat_le (length name) longest_name
 
 -- The name's length in one byte, the name, the value's length in two bytes, the higher first, and the value.
 -- A dropped name has the two bytes 255 and no value.
@@ -20,11 +20,11 @@ unfoldable pub encoded : Record → List ℕ
 encoded (stored name value) = length name ∷ (name ++ (length value / 256 ∷ length value % 256 ∷ value))
 encoded (dropped name) = length name ∷ (name ++ (255 ∷ 255 ∷ []))
 
-abbrev pub longest-record : ℕ
-longest-record = 1 + longest-name + 2 + longest-value
+abbrev pub longest_record : ℕ
+longest_record = 1 + longest_name + 2 + longest_value
 
-abbrev pub all-encoded : List Record → List ℕ
-all-encoded rs = flat_map encoded rs
+abbrev pub all_encoded : List Record → List ℕ
+all_encoded rs = flat_map encoded rs
 
 abbrev pub all_valid : List Record → Bool
 all_valid [] = true
@@ -44,24 +44,24 @@ abbrev pub record_of : List ℕ → List ℕ → Record
 record_of name after = cond (size_in after == no_size) (dropped name) (stored name (take (size_in after) (drop 2 after)))
 
 -- what follows the record
-abbrev pub past-record : List ℕ → List ℕ
-past-record after = cond (size_in after == no_size) (drop 2 after) (drop (size_in after) (drop 2 after))
+abbrev pub past_record : List ℕ → List ℕ
+past_record after = cond (size_in after == no_size) (drop 2 after) (drop (size_in after) (drop 2 after))
 
 -- record after record, at most `most`
-unfoldable pub first-records : ℕ → List ℕ → List Record
-first-records zero bytes = []
-first-records (suc most) [] = []
-first-records (suc most) (n ∷ bytes) = record_of (take n bytes) (drop n bytes) ∷ first-records most (past-record (drop n bytes))
+unfoldable pub first_records : ℕ → List ℕ → List Record
+first_records zero bytes = []
+first_records (suc most) [] = []
+first_records (suc most) (n ∷ bytes) = record_of (take n bytes) (drop n bytes) ∷ first_records most (past_record (drop n bytes))
 
 -- all of them: each takes up one byte at least
-unfoldable pub records-in : List ℕ → List Record
-records-in bytes = first-records (length bytes) bytes
+unfoldable pub records_in : List ℕ → List Record
+records_in bytes = first_records (length bytes) bytes
 
 -- The bytes are records, one right after another, and nothing else.
 pub record Whole (bytes : List ℕ) : Type 0 where
-  pub all-of-them : all-encoded (records-in bytes) ≡ bytes
-  pub each-valid : all_valid (records-in bytes) ≡ true
+  pub all_of_them : all_encoded (records_in bytes) ≡ bytes
+  pub each_valid : all_valid (records_in bytes) ≡ true
 
 -- Theorem: what is read is what was written.
-abbrev pub Records-read-back : Type 0
-Records-read-back = (rs : List Record) → all_valid rs ≡ true → records-in (all-encoded rs) ≡ rs
+abbrev pub RecordsReadBack : Type 0
+RecordsReadBack = (rs : List Record) → all_valid rs ≡ true → records_in (all_encoded rs) ≡ rs

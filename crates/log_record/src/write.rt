@@ -1,8 +1,8 @@
 //! Records written into bytes.
 
 ghost use Rattle.std.specs.Prelude.{◌≡◌, ◌+◌, ◌≤◌, ◌∷◌, length, nat_le};
-ghost use Rattle.cloud.specs.Meaning.{longest-name};
-ghost use Rattle.log_record.specs.Records.{stored, dropped, Records-read-back};
+ghost use Rattle.cloud.specs.Meaning.{longest_name};
+ghost use Rattle.log_record.specs.Records.{stored, dropped, RecordsReadBack};
 ghost use Rattle.log_record.specs.Written.{Written, overwritten};
 
 use crate::limits::{LENGTHS, LONGEST_NAME, LONGEST_VALUE};
@@ -10,7 +10,7 @@ use crate::limits::{LENGTHS, LONGEST_NAME, LONGEST_VALUE};
 /// Writes the record of a value put under a name, and answers where it ends.
 pub fn write_stored(bytes: &mut [u8], at: usize, name: &[u8], value: &[u8]) -> Option<usize>
     ensures written { Written bytes.old at (stored name.now value.now) result bytes.new }
-    ensures read_back { Records-read-back }
+    ensures read_back { RecordsReadBack }
 {
     if name.len() > LONGEST_NAME || value.len() > LONGEST_VALUE {
         return None;
@@ -48,7 +48,7 @@ fn has_room(bytes: &[u8], at: usize, size: usize) -> bool
 
 // Writes the name's length and the name.
 fn write_name(bytes: &mut [u8], at: usize, name: &[u8]) -> usize
-    requires short { length name.now ≤ longest-name }
+    requires short { length name.now ≤ longest_name }
     requires room { at + length name.now + 1 ≤ length bytes.old }
     ensures end { result ≡ at + length (length name.now ∷ name.now) }
     ensures after { bytes.new ≡ overwritten bytes.old at (length name.now ∷ name.now) }

@@ -2,25 +2,25 @@
 use Rattle.std.proofs.Common.{◌≡◌, ℕ, ◌+◌, ◌-◌, ◌≤◌, List, ◌++◌, length, take, drop, replicate, sym, ap, ◌∙◌, zero-add, arith}
 use Rattle.std.proofs.lemmas.List.{append_assoc, length-append, length-take, length-drop, length-replicate, take-append-drop, take_at, drop_at, drop-drop, drop-replicate}
 
-pub length-held : (size n : ℕ) (xs : List ℕ) → n ≤ size → length xs ≡ size → length (take n xs) ≡ n
-length-held size n xs fits whole = rw length-take (omega arith)
+pub length_held : (size n : ℕ) (xs : List ℕ) → n ≤ size → length xs ≡ size → length (take n xs) ≡ n
+length_held size n xs fits whole = rw length-take (omega arith)
 
 -- Equal bytes in use make equal arrays.
-module _ (size m n : ℕ) (xs ys : List ℕ) (m-fits : m ≤ size) (n-fits : n ≤ size) (xs-whole : length xs ≡ size) (ys-whole : length ys ≡ size) (xs-padded : drop m xs ≡ replicate (size - m) 0) (ys-padded : drop n ys ≡ replicate (size - n) 0) (same : take m xs ≡ take n ys) where
+module _ (size m n : ℕ) (xs ys : List ℕ) (m_fits : m ≤ size) (n_fits : n ≤ size) (xs_whole : length xs ≡ size) (ys_whole : length ys ≡ size) (xs_padded : drop m xs ≡ replicate (size - m) 0) (ys_padded : drop n ys ≡ replicate (size - n) 0) (same : take m xs ≡ take n ys) where
   same_count : m ≡ n
   same_count =
-      sym (length-held size m xs m-fits xs-whole) ∙ ap length same ∙ length-held size n ys n-fits ys-whole
+      sym (length_held size m xs m_fits xs_whole) ∙ ap length same ∙ length_held size n ys n_fits ys_whole
 
-  same-array : xs ≡ ys
-  same-array =
+  same_array : xs ≡ ys
+  same_array =
       sym (take-append-drop m xs)
       ∙ ap (λ bs. bs ++ drop m xs) same
-      ∙ ap (λ bs. take n ys ++ bs) (xs-padded ∙ ap (λ k. replicate (size - k) 0) same_count ∙ sym ys-padded)
+      ∙ ap (λ bs. take n ys ++ bs) (xs_padded ∙ ap (λ k. replicate (size - k) 0) same_count ∙ sym ys_padded)
       ∙ take-append-drop n ys
 
   -- As the fields of a struct.
-  pub held-only : ◌≡◌ {A = List ℕ × (ℕ × Unit {0})} (xs, (m, tt)) (ys, (n, tt))
-  held-only = ap (λ bs. (bs, (m, tt))) same-array ∙ ap (λ k. (ys, (k, tt))) same_count
+  pub held_only : ◌≡◌ {A = List ℕ × (ℕ × Unit {0})} (xs, (m, tt)) (ys, (n, tt))
+  held_only = ap (λ bs. (bs, (m, tt))) same_array ∙ ap (λ k. (ys, (k, tt))) same_count
 
 -- Bytes are written past the first n, which are in use.
 module _ (size n : ℕ) (xs bs out : List ℕ) (fits : n + length bs ≤ size) (whole : length xs ≡ size) (padded : drop n xs ≡ replicate (size - n) 0) (written : out ≡ take n xs ++ (bs ++ drop (n + length bs) xs)) where
@@ -33,8 +33,8 @@ module _ (size n : ℕ) (xs bs out : List ℕ) (fits : n + length bs ≤ size) (
   split : out ≡ (take n xs ++ bs) ++ drop end xs
   split = written ∙ sym (append_assoc (take n xs) bs (drop end xs))
 
-  pub written-front : take end out ≡ take n xs ++ bs
-  written-front = ap (take end) split ∙ take_at (take n xs ++ bs) (drop end xs) end front
+  pub written_front : take end out ≡ take n xs ++ bs
+  written_front = ap (take end) split ∙ take_at (take n xs ++ bs) (drop end xs) end front
 
   left : size - n - length bs ≡ size - end
   left = omega arith
@@ -46,11 +46,11 @@ module _ (size n : ℕ) (xs bs out : List ℕ) (fits : n + length bs ≤ size) (
       ∙ drop-replicate (length bs) (size - n) 0
       ∙ ap (λ k. replicate k 0) left
 
-  pub written-rest : drop end out ≡ replicate (size - end) 0
-  written-rest = ap (drop end) split ∙ drop_at (take n xs ++ bs) (drop end xs) end front ∙ rest
+  pub written_rest : drop end out ≡ replicate (size - end) 0
+  written_rest = ap (drop end) split ∙ drop_at (take n xs ++ bs) (drop end xs) end front ∙ rest
 
-  pub written-length : length out ≡ size
-  written-length = ap length split ∙ simp (length-append, length-take, length-drop) (omega arith)
+  pub written_length : length out ≡ size
+  written_length = ap length split ∙ simp (length-append, length-take, length-drop) (omega arith)
 
 -- The same for an array of zeros.
 module _ (size : ℕ) (bs out : List ℕ) (fits : length bs ≤ size) (written : out ≡ bs ++ drop (0 + length bs) (replicate size 0)) where
@@ -63,13 +63,13 @@ module _ (size : ℕ) (bs out : List ℕ) (fits : length bs ≤ size) (written :
   unwritten : drop 0 (replicate {A = ℕ} size 0) ≡ replicate (size - 0) 0
   unwritten = drop-replicate 0 size 0
 
-  pub filled-front : take (length bs) out ≡ bs
-  filled-front =
-      rw zero-add at (written-front size 0 (replicate size 0) bs out room zeros unwritten written)
+  pub filled_front : take (length bs) out ≡ bs
+  filled_front =
+      rw zero-add at (written_front size 0 (replicate size 0) bs out room zeros unwritten written)
 
-  pub filled-rest : drop (length bs) out ≡ replicate (size - length bs) 0
-  filled-rest =
-      simp zero-add at (written-rest size 0 (replicate size 0) bs out room zeros unwritten written)
+  pub filled_rest : drop (length bs) out ≡ replicate (size - length bs) 0
+  filled_rest =
+      simp zero-add at (written_rest size 0 (replicate size 0) bs out room zeros unwritten written)
 
-  pub filled-length : length out ≡ size
-  filled-length = written-length size 0 (replicate size 0) bs out room zeros unwritten written
+  pub filled_length : length out ≡ size
+  filled_length = written_length size 0 (replicate size 0) bs out room zeros unwritten written

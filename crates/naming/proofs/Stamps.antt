@@ -5,52 +5,52 @@ use Rattle.std.proofs.lemmas.Bool.{cases_Bool}
 use denote.Struct.Record.{values_one}
 use Rattle.naming.specs.contracts.stamp.Stamp.{struct, the_propositions}
 use Rattle.naming.specs.declared.stamp.Stamp.{Stamp}
-use Rattle.naming.specs.Stamps.{StampValue, Valid-stamp, stamp-value, stamp-below, Stamps-are-ordered, no-stamp, next-stamp}
+use Rattle.naming.specs.Stamps.{StampValue, ValidStamp, stamp_value, stamp_below, StampsAreOrdered, no_stamp, next_stamp}
 
 -- ---- every Stamp is one
 
-pub stamp-is-valid : (s : Stamp) → Valid-stamp (stamp-value s)
-stamp-is-valid s = record { sequence-fits = s.fits; writer-known = s.known }
+pub stamp_is_valid : (s : Stamp) → ValidStamp (stamp_value s)
+stamp_is_valid s = record { sequence_fits = s.fits; writer_known = s.known }
 
 -- Stamps of equal values are equal.
-pub stamp-only : (a b : Stamp) → stamp-value a ≡ stamp-value b → a ≡ b
-stamp-only a b e = values_one struct the_propositions a b (ap (λ v. (v.sequence, (v.writer, tt))) e)
+pub stamp_only : (a b : Stamp) → stamp_value a ≡ stamp_value b → a ≡ b
+stamp_only a b e = values_one struct the_propositions a b (ap (λ v. (v.sequence, (v.writer, tt))) e)
 
 -- ---- their order
 
-pub stamp-below-irreflexive : (s : StampValue) → stamp-below s s ≡ false
-unfolding stamp-below
-stamp-below-irreflexive s = grind (arith, nat_tests)
+pub stamp_below_irreflexive : (s : StampValue) → stamp_below s s ≡ false
+unfolding stamp_below
+stamp_below_irreflexive s = grind (arith, nat_tests)
 
-pub stamp-below-transitive : (s t u : StampValue) → stamp-below s t ≡ true → stamp-below t u ≡ true → stamp-below s u ≡ true
-unfolding stamp-below
-stamp-below-transitive s t u p q = grind (arith, nat_tests)
+pub stamp_below_transitive : (s t u : StampValue) → stamp_below s t ≡ true → stamp_below t u ≡ true → stamp_below s u ≡ true
+unfolding stamp_below
+stamp_below_transitive s t u p q = grind (arith, nat_tests)
 
-pub same-stamp-value : (s t : StampValue) → s.sequence ≡ t.sequence → s.writer ≡ t.writer → s ≡ t
-same-stamp-value s t p q =
+pub same_stamp_value : (s t : StampValue) → s.sequence ≡ t.sequence → s.writer ≡ t.writer → s ≡ t
+same_stamp_value s t p q =
     let of : ℕ → ℕ → StampValue = λ n w. record { sequence = n; writer = w } in
     ap (λ n. of n s.writer) p ∙ ap (λ w. of t.sequence w) q
 
 -- Neither is below the other only where both parts are equal.
-same-from-neither : (s t : StampValue) → stamp-below s t ≡ false → stamp-below t s ≡ false → (s.sequence ≡ t.sequence) × (s.writer ≡ t.writer)
-unfolding stamp-below
-same-from-neither s t p q = (grind (arith, nat_tests), grind (arith, nat_tests))
+same_from_neither : (s t : StampValue) → stamp_below s t ≡ false → stamp_below t s ≡ false → (s.sequence ≡ t.sequence) × (s.writer ≡ t.writer)
+unfolding stamp_below
+same_from_neither s t p q = (grind (arith, nat_tests), grind (arith, nat_tests))
 
-pub stamp-below-trichotomy : (s t : StampValue) → (stamp-below s t ≡ true) ⊎ ((s ≡ t) ⊎ (stamp-below t s ≡ true))
-stamp-below-trichotomy s t =
-    ⊎_elim inl (λ p. inr (⊎_elim inr (λ q. let e = same-from-neither s t p q in inl (same-stamp-value s t e.0 e.1)) (cases_Bool (stamp-below t s))))
-    (cases_Bool (stamp-below s t))
+pub stamp_below_trichotomy : (s t : StampValue) → (stamp_below s t ≡ true) ⊎ ((s ≡ t) ⊎ (stamp_below t s ≡ true))
+stamp_below_trichotomy s t =
+    ⊎_elim inl (λ p. inr (⊎_elim inr (λ q. let e = same_from_neither s t p q in inl (same_stamp_value s t e.0 e.1)) (cases_Bool (stamp_below t s))))
+    (cases_Bool (stamp_below s t))
 
-pub stamps-are-ordered : Stamps-are-ordered
-stamps-are-ordered =
-    record { irreflexive = stamp-below-irreflexive; transitive = stamp-below-transitive; trichotomous = stamp-below-trichotomy }
+pub stamps_are_ordered : StampsAreOrdered
+stamps_are_ordered =
+    record { irreflexive = stamp_below_irreflexive; transitive = stamp_below_transitive; trichotomous = stamp_below_trichotomy }
 
 -- No stamp is below that of a key without an entry.
-pub not-below-no-stamp : (s : StampValue) → stamp-below s no-stamp ≡ false
-unfolding stamp-below
-not-below-no-stamp s = grind (arith, nat_tests)
+pub not_below_no_stamp : (s : StampValue) → stamp_below s no_stamp ≡ false
+unfolding stamp_below
+not_below_no_stamp s = grind (arith, nat_tests)
 
 -- The next stamp is above, whoever writes.
-pub below-next-stamp : (s : StampValue) (w : ℕ) → stamp-below s (next-stamp s w) ≡ true
-unfolding stamp-below
-below-next-stamp s w = grind (arith, nat_tests)
+pub below_next_stamp : (s : StampValue) (w : ℕ) → stamp_below s (next_stamp s w) ≡ true
+unfolding stamp_below
+below_next_stamp s w = grind (arith, nat_tests)

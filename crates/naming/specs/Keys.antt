@@ -3,5 +3,5 @@ use Rattle.std.specs.Prelude.{ℕ, List, take}
 use Rattle.naming.specs.declared.key.Key.{Key}
 
 -- The bytes of a key.
-abbrev pub key-bytes : Key → List ℕ
-key-bytes k = take k.len k.bytes
+abbrev pub key_bytes : Key → List ℕ
+key_bytes k = take k.len k.bytes

@@ -1,7 +1,7 @@
 //! Keys.
 
 ghost use Rattle.std.specs.Prelude.{◌≡◌, ◌-◌, ◌≤◌, true, length, take, drop, replicate};
-ghost use Rattle.naming.specs.Limits.{longest-key};
+ghost use Rattle.naming.specs.Limits.{longest_key};
 ghost use Rattle.naming.specs.Text.{printable};
 
 mod making;
@@ -15,8 +15,8 @@ pub struct Key {
     bytes: [u8; LONGEST],
     len: u8,
     ghost low: { 1 ≤ len },
-    ghost high: { len ≤ longest-key },
-    ghost size: { length bytes ≡ longest-key },
+    ghost high: { len ≤ longest_key },
+    ghost size: { length bytes ≡ longest_key },
     ghost text: { printable (take len bytes) ≡ true },
-    ghost padded: { drop len bytes ≡ replicate (longest-key - len) 0 },
+    ghost padded: { drop len bytes ≡ replicate (longest_key - len) 0 },
 }

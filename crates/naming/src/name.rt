@@ -1,7 +1,7 @@
 //! Names.
 
 ghost use Rattle.std.specs.Prelude.{◌≡◌, ◌-◌, ◌≤◌, length, drop, replicate};
-ghost use Rattle.naming.specs.Limits.{longest-name};
+ghost use Rattle.naming.specs.Limits.{longest_name};
 
 mod making;
 mod matching;
@@ -15,7 +15,7 @@ const LONGEST: usize = 39;
 pub struct Name {
     bytes: [u8; LONGEST],
     len: u8,
-    ghost high: { len ≤ longest-name },
-    ghost size: { length bytes ≡ longest-name },
-    ghost padded: { drop len bytes ≡ replicate (longest-name - len) 0 },
+    ghost high: { len ≤ longest_name },
+    ghost size: { length bytes ≡ longest_name },
+    ghost padded: { drop len bytes ≡ replicate (longest_name - len) 0 },
 }

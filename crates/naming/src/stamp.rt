@@ -1,7 +1,7 @@
 //! Stamps.
 
 ghost use Rattle.std.specs.Prelude.{◌≤◌};
-ghost use Rattle.naming.specs.Limits.{greatest-sequence, greatest-writer};
+ghost use Rattle.naming.specs.Limits.{greatest_sequence, greatest_writer};
 
 mod making;
 mod order;
@@ -12,6 +12,6 @@ mod reading;
 pub struct Stamp {
     sequence: u32,
     writer: u8,
-    ghost fits: { sequence ≤ greatest-sequence },
-    ghost known: { writer ≤ greatest-writer },
+    ghost fits: { sequence ≤ greatest_sequence },
+    ghost known: { writer ≤ greatest_writer },
 }

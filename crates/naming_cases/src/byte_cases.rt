@@ -1,6 +1,6 @@
 //! The order of byte strings.
 
-use bytes::compare::{is_at_most, is_below, is_same};
+use byte_strings::compare::{is_at_most, is_below, is_same};
 
 // Each comes before all that follow.
 const ASCENDING: [&[u8]; 7] = [b"", b"\x00", b"\x00\x00", b"a", b"aa", b"ab", b"\xff"];

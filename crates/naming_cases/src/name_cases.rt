@@ -1,7 +1,7 @@
 //! Names, byte for byte.
 
 use crate::made::{key, name, stamp};
-use bytes::compare::is_below;
+use byte_strings::compare::is_below;
 use naming::name::Name;
 use std::test::Fail;
 

@@ -1,10 +1,10 @@
 //! Keys together with their containers, in the order of the containers and then of the keys.
 
-ghost use Rattle.naming_next.specs.ContainerKeys.{container-key-le, container-key-above};
-ghost use Rattle.naming_next.specs.ContainerKeysLemmas.{container-key-preorder};
+ghost use Rattle.naming_next.specs.ContainerKeys.{container_key_le, container_key_above};
+ghost use Rattle.naming_next.specs.ContainerKeysLemmas.{container_key_preorder};
 
-use bytes::compare::{is_at_most, is_below};
-use bytes::successor::{Bound, Ordered};
+use byte_strings::compare::{is_at_most, is_below};
+use byte_strings::successor::{Bound, Ordered};
 use naming::key::Key;
 
 /// A key in its container.
@@ -22,9 +22,9 @@ pub struct KeyBound<'a> {
 }
 
 impl Ordered for ContainerKey {
-    ghost le = { container-key-le };
+    ghost le = { container_key_le };
 
-    ghost ordered = { container-key-preorder };
+    ghost ordered = { container_key_preorder };
 
     fn is_at_most(&self, other: &ContainerKey) -> bool {
         if self.container == other.container {
@@ -35,7 +35,7 @@ impl Ordered for ContainerKey {
 }
 
 impl<'a> Bound<ContainerKey> for KeyBound<'a> {
-    ghost above = { container-key-above };
+    ghost above = { container_key_above };
 
     fn is_below(&self, item: &ContainerKey) -> bool {
         if self.container == item.container {

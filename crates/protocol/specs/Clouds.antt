@@ -3,8 +3,8 @@ use Rattle.std.specs.Prelude.{ℕ, ◌^◌, Bool, cond, List, [], ◌∷◌, len
 use Rattle.entry.specs.Entries.{lists}
 
 -- the set with one cloud more
-unfoldable pub with-cloud : ℕ → ℕ → ℕ
-with-cloud set i = bit_or set (2 ^ i)
+unfoldable pub with_cloud : ℕ → ℕ → ℕ
+with_cloud set i = bit_or set (2 ^ i)
 
 -- those of some clouds that are in the set
 unfoldable pub chosen : ℕ → List ℕ → List ℕ
@@ -12,9 +12,9 @@ chosen set [] = []
 chosen set (i ∷ is) = cond (lists set i) (i ∷ chosen set is) (chosen set is)
 
 -- a row has at most seven clouds
-abbrev pub all-clouds : List ℕ
-all-clouds = 0 ∷ 1 ∷ 2 ∷ 3 ∷ 4 ∷ 5 ∷ 6 ∷ []
+abbrev pub all_clouds : List ℕ
+all_clouds = 0 ∷ 1 ∷ 2 ∷ 3 ∷ 4 ∷ 5 ∷ 6 ∷ []
 
 -- how many clouds are in the set
 unfoldable pub count : ℕ → ℕ
-count set = length (chosen set all-clouds)
+count set = length (chosen set all_clouds)

@@ -31,39 +31,39 @@ pub data SlotValue : Type 0 where
   fetching : FetchingValue → SlotValue
   sweeping : SweepingValue → SlotValue
 
-abbrev pub is-idle : SlotValue → Bool
-is-idle idle = true
-is-idle (saving x) = false
-is-idle (fetching x) = false
-is-idle (sweeping x) = false
+abbrev pub is_idle : SlotValue → Bool
+is_idle idle = true
+is_idle (saving x) = false
+is_idle (fetching x) = false
+is_idle (sweeping x) = false
 
-abbrev pub is-saving : SlotValue → Bool
-is-saving idle = false
-is-saving (saving x) = true
-is-saving (fetching x) = false
-is-saving (sweeping x) = false
+abbrev pub is_saving : SlotValue → Bool
+is_saving idle = false
+is_saving (saving x) = true
+is_saving (fetching x) = false
+is_saving (sweeping x) = false
 
-abbrev pub is-fetching : SlotValue → Bool
-is-fetching idle = false
-is-fetching (saving x) = false
-is-fetching (fetching x) = true
-is-fetching (sweeping x) = false
+abbrev pub is_fetching : SlotValue → Bool
+is_fetching idle = false
+is_fetching (saving x) = false
+is_fetching (fetching x) = true
+is_fetching (sweeping x) = false
 
-abbrev pub is-sweeping : SlotValue → Bool
-is-sweeping idle = false
-is-sweeping (saving x) = false
-is-sweeping (fetching x) = false
-is-sweeping (sweeping x) = true
+abbrev pub is_sweeping : SlotValue → Bool
+is_sweeping idle = false
+is_sweeping (saving x) = false
+is_sweeping (fetching x) = false
+is_sweeping (sweeping x) = true
 
 -- a test of what the slot is saving, or fetching; false where it is doing something else
-abbrev pub of-saving : SlotValue → (SavingValue → Bool) → Bool
-of-saving idle t = false
-of-saving (saving x) t = t x
-of-saving (fetching x) t = false
-of-saving (sweeping x) t = false
+abbrev pub of_saving : SlotValue → (SavingValue → Bool) → Bool
+of_saving idle t = false
+of_saving (saving x) t = t x
+of_saving (fetching x) t = false
+of_saving (sweeping x) t = false
 
-abbrev pub of-fetching : SlotValue → (FetchingValue → Bool) → Bool
-of-fetching idle t = false
-of-fetching (saving x) t = false
-of-fetching (fetching x) t = t x
-of-fetching (sweeping x) t = false
+abbrev pub of_fetching : SlotValue → (FetchingValue → Bool) → Bool
+of_fetching idle t = false
+of_fetching (saving x) t = false
+of_fetching (fetching x) t = t x
+of_fetching (sweeping x) t = false

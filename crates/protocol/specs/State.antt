@@ -16,17 +16,17 @@ pub record State : Type 0 where
   -- that of party 1 comes first
   pub slots : List SlotValue
 
-abbrev pub valid-party : ℕ → Bool
-valid-party p = nat_le 1 p && nat_le p 16
+abbrev pub valid_party : ℕ → Bool
+valid_party p = nat_le 1 p && nat_le p 16
 
 abbrev pub slot_of : State → ℕ → SlotValue
 slot_of s p = slice_index_or s.slots (p - 1) idle
 
-abbrev pub with-slot : State → ℕ → SlotValue → State
-with-slot s p x = record { directory = s.directory; clouds = s.clouds; slots = slice_set s.slots (p - 1) x }
+abbrev pub with_slot : State → ℕ → SlotValue → State
+with_slot s p x = record { directory = s.directory; clouds = s.clouds; slots = slice_set s.slots (p - 1) x }
 
-abbrev pub with-clouds : State → List CloudMeaning → State
-with-clouds s ms = record { directory = s.directory; clouds = ms; slots = s.slots }
+abbrev pub with_clouds : State → List CloudMeaning → State
+with_clouds s ms = record { directory = s.directory; clouds = ms; slots = s.slots }
 
-abbrev pub with-directory : State → DirectoryMeaning → State
-with-directory s d = record { directory = d; clouds = s.clouds; slots = s.slots }
+abbrev pub with_directory : State → DirectoryMeaning → State
+with_directory s d = record { directory = d; clouds = s.clouds; slots = s.slots }

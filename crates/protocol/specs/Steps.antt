@@ -6,32 +6,32 @@ use Rattle.refusal.specs.declared.Cause.{Cause}
 use Rattle.refusal.specs.declared.Cause.TheVariants.{Silent}
 use Rattle.refusal.specs.declared.Refusal.{Refusal}
 use Rattle.refusal.specs.declared.Refusal.TheVariants.{CloudRefused, ValueMismatch}
-use Rattle.naming.specs.Stamps.{StampValue, next-stamp, no-stamp}
+use Rattle.naming.specs.Stamps.{StampValue, next_stamp, no_stamp}
 use Rattle.naming.specs.Names.{name_of}
 use Rattle.entry.specs.Entries.{EntryValue, LiveValue}
 use Rattle.cloud.specs.Meaning.{CloudMeaning}
-use Rattle.cloud.specs.Outcomes.{Done, Length, NextLength, over, Put-outcome, Get-outcome, Drop-outcome, Next-outcome}
+use Rattle.cloud.specs.Outcomes.{Done, Length, NextLength, over, PutOutcome, GetOutcome, DropOutcome, NextOutcome}
 use Rattle.row.specs.Rows.{Called}
 use Rattle.directory.specs.declared.interface.CommitAnswer.{CommitAnswer}
 use Rattle.directory.specs.declared.interface.CommitAnswer.TheVariants.{Committed, Older, Full}
-use Rattle.directory.specs.Calls.{entry_of, stamp-of, commit-answer, commit-after}
+use Rattle.directory.specs.Calls.{entry_of, stamp_of, commit_answer, commit_after}
 use Rattle.protocol.specs.declared.answers.CommitOutcome.{CommitOutcome}
 use Rattle.protocol.specs.declared.answers.CommitOutcome.TheVariants.{Committed as SaveCommitted, Passed}
 use Rattle.protocol.specs.declared.answers.Listed.{Listed}
-use Rattle.protocol.specs.Clouds.{with-cloud, count}
+use Rattle.protocol.specs.Clouds.{with_cloud, count}
 use Rattle.protocol.specs.Slots.{SlotValue, SavingValue, FetchingValue, SweepingValue, idle, saving, fetching, sweeping}
-use Rattle.protocol.specs.State.{Setting, State, slot_of, with-slot, with-clouds, with-directory}
+use Rattle.protocol.specs.State.{Setting, State, slot_of, with_slot, with_clouds, with_directory}
 use Rattle.protocol.specs.Listing.{keys_of, listing}
-use Rattle.protocol.specs.Calls.{Call, begin-save, store, commit, delete, begin-fetch, try-cloud, look-again, begin-sweep, sweep, leave, list}
-use Rattle.protocol.specs.Grounds.{first-ground, first_of, caller-grounds, slot-grounds, live_of, saved-entry}
+use Rattle.protocol.specs.Calls.{Call, begin_save, store, commit, delete, begin_fetch, try_cloud, look_again, begin_sweep, sweep, leave, list}
+use Rattle.protocol.specs.Grounds.{first_ground, first_of, caller_grounds, slot_grounds, live_of, saved_entry}
 use Rattle.protocol.specs.Sweeping.{Swept}
-use Rattle.protocol.specs.Events.{Event, FoundValue, began-save, stored, committed, deleted, began-fetch, tried, looked-again, began-sweep, swept, left, listed}
+use Rattle.protocol.specs.Events.{Event, FoundValue, began_save, stored, committed, deleted, began_fetch, tried, looked_again, began_sweep, swept, left, listed}
 
 -- ---- refused, or done
 
-abbrev pub or-refused : {X : Type 0} → Option Refusal → X → Result X Refusal
-or-refused None x = Ok x
-or-refused (Some e) x = Err e
+abbrev pub or_refused : {X : Type 0} → Option Refusal → X → Result X Refusal
+or_refused None x = Ok x
+or_refused (Some e) x = Err e
 
 abbrev pub or_kept : {X : Type 0} → Option Refusal → X → X → X
 or_kept None old new = new
@@ -39,7 +39,7 @@ or_kept (Some e) old new = old
 
 -- a call that asks no cloud: it is refused and leaves all as it stood, or answers x and leaves t
 pub record Does {X : Type 0} (ground : Option Refusal) (x : X) (t s : State) (r : Result X Refusal) (s' : State) : Type 0 where
-  pub answers : r ≡ or-refused ground x
+  pub answers : r ≡ or_refused ground x
   pub leaves : s' ≡ or_kept ground s t
 
 -- a call that asks a cloud: it is refused before and leaves all as it stood, or does what it does with the cloud
@@ -48,79 +48,79 @@ Asks None done s r s' = done
 Asks (Some e) done s r s' = (r ≡ Err e) × (s' ≡ s)
 
 -- a buffer stays as it is where the call is refused before a cloud is asked
-abbrev pub or-unwritten : Option Refusal → List ℕ → List ℕ → Type 0
-or-unwritten None buffer buffer' = Unit {0}
-or-unwritten (Some e) buffer buffer' = buffer' ≡ buffer
+abbrev pub or_unwritten : Option Refusal → List ℕ → List ℕ → Type 0
+or_unwritten None buffer buffer' = Unit {0}
+or_unwritten (Some e) buffer buffer' = buffer' ≡ buffer
 
 -- a cloud's refusal, with its number
-abbrev pub cloud-refused : {X : Type 0} → ℕ → Cause → Result X Refusal
-cloud-refused i e = Err (CloudRefused (record { cloud = i; cause = e }))
+abbrev pub cloud_refused : {X : Type 0} → ℕ → Cause → Result X Refusal
+cloud_refused i e = Err (CloudRefused (record { cloud = i; cause = e }))
 
 -- ---- what a slot has under way; the calls ask only where it has
 
-abbrev pub saving-of : SlotValue → SavingValue
-saving-of idle = record { container = 0; key = []; stamp = no-stamp; size = 0; digest = []; stored = 0 }
-saving-of (saving x) = x
-saving-of (fetching x) = record { container = 0; key = []; stamp = no-stamp; size = 0; digest = []; stored = 0 }
-saving-of (sweeping x) = record { container = 0; key = []; stamp = no-stamp; size = 0; digest = []; stored = 0 }
+abbrev pub saving_of : SlotValue → SavingValue
+saving_of idle = record { container = 0; key = []; stamp = no_stamp; size = 0; digest = []; stored = 0 }
+saving_of (saving x) = x
+saving_of (fetching x) = record { container = 0; key = []; stamp = no_stamp; size = 0; digest = []; stored = 0 }
+saving_of (sweeping x) = record { container = 0; key = []; stamp = no_stamp; size = 0; digest = []; stored = 0 }
 
-abbrev pub fetching-of : SlotValue → FetchingValue
-fetching-of idle = record { container = 0; key = []; stamp = no-stamp; live = record { clouds = 0; size = 0; digest = [] } }
-fetching-of (saving x) = record { container = 0; key = []; stamp = no-stamp; live = record { clouds = 0; size = 0; digest = [] } }
-fetching-of (fetching x) = x
-fetching-of (sweeping x) = record { container = 0; key = []; stamp = no-stamp; live = record { clouds = 0; size = 0; digest = [] } }
+abbrev pub fetching_of : SlotValue → FetchingValue
+fetching_of idle = record { container = 0; key = []; stamp = no_stamp; live = record { clouds = 0; size = 0; digest = [] } }
+fetching_of (saving x) = record { container = 0; key = []; stamp = no_stamp; live = record { clouds = 0; size = 0; digest = [] } }
+fetching_of (fetching x) = x
+fetching_of (sweeping x) = record { container = 0; key = []; stamp = no_stamp; live = record { clouds = 0; size = 0; digest = [] } }
 
-abbrev pub sweeping-of : SlotValue → SweepingValue
-sweeping-of idle = record { container = 0; key = []; stamp = no-stamp }
-sweeping-of (saving x) = record { container = 0; key = []; stamp = no-stamp }
-sweeping-of (fetching x) = record { container = 0; key = []; stamp = no-stamp }
-sweeping-of (sweeping x) = x
+abbrev pub sweeping_of : SlotValue → SweepingValue
+sweeping_of idle = record { container = 0; key = []; stamp = no_stamp }
+sweeping_of (saving x) = record { container = 0; key = []; stamp = no_stamp }
+sweeping_of (fetching x) = record { container = 0; key = []; stamp = no_stamp }
+sweeping_of (sweeping x) = x
 
 -- ---- saving
 
 -- the stamp of the key's next write
-abbrev pub new-stamp : State → ℕ → ℕ → List ℕ → StampValue
-new-stamp s p c k = next-stamp (stamp-of (entry_of s.directory c k)) p
+abbrev pub new_stamp : State → ℕ → ℕ → List ℕ → StampValue
+new_stamp s p c k = next_stamp (stamp_of (entry_of s.directory c k)) p
 
 abbrev pub begun : Setting → State → ℕ → ℕ → List ℕ → List ℕ → SavingValue
 begun S s p c k v =
-    record { container = c; key = k; stamp = new-stamp s p c k; size = length v; digest = S.digested v; stored = 0 }
+    record { container = c; key = k; stamp = new_stamp s p c k; size = length v; digest = S.digested v; stored = 0 }
 
 -- the save with one acknowledgement more
 abbrev pub acknowledged : SavingValue → ℕ → SavingValue
 acknowledged x i =
-    record { container = x.container; key = x.key; stamp = x.stamp; size = x.size; digest = x.digest; stored = with-cloud x.stored i }
+    record { container = x.container; key = x.key; stamp = x.stamp; size = x.size; digest = x.digest; stored = with_cloud x.stored i }
 
-abbrev pub store-answer : SavingValue → ℕ → Done → Result ℕ Refusal
-store-answer x i (Ok t) = Ok (count (with-cloud x.stored i))
-store-answer x i (Err e) = cloud-refused i e
+abbrev pub store_answer : SavingValue → ℕ → Done → Result ℕ Refusal
+store_answer x i (Ok t) = Ok (count (with_cloud x.stored i))
+store_answer x i (Err e) = cloud_refused i e
 
 abbrev pub after_store : State → ℕ → SavingValue → ℕ → Done → State
-after_store s p x i (Ok t) = with-slot s p (saving (acknowledged x i))
+after_store s p x i (Ok t) = with_slot s p (saving (acknowledged x i))
 after_store s p x i (Err e) = s
 
 -- the value is put at the cloud under the save's name; a put that is acknowledged counts
 pub record Stores (s : State) (p i : ℕ) (v : List ℕ) (x : SavingValue) (r : Result ℕ Refusal) (s' : State) : Type 0 where
   pub said : Done
-  pub cloud : Called s.clouds i s'.clouds (λ m m'. Put-outcome m (name_of x.container x.key x.stamp) v said m') (said ≡ Err Silent)
-  pub answers : r ≡ store-answer x i said
-  pub leaves : s' ≡ with-clouds (after_store s p x i said) s'.clouds
+  pub cloud : Called s.clouds i s'.clouds (λ m m'. PutOutcome m (name_of x.container x.key x.stamp) v said m') (said ≡ Err Silent)
+  pub answers : r ≡ store_answer x i said
+  pub leaves : s' ≡ with_clouds (after_store s p x i said) s'.clouds
 
-abbrev pub commit-outcome : CommitAnswer → CommitOutcome
-commit-outcome Committed = SaveCommitted
-commit-outcome Older = Passed
-commit-outcome Full = Passed
+abbrev pub commit_outcome : CommitAnswer → CommitOutcome
+commit_outcome Committed = SaveCommitted
+commit_outcome Older = Passed
+commit_outcome Full = Passed
 
-abbrev pub after-commit : State → ℕ → SavingValue → State
-after-commit s p x = with-slot (with-directory s (commit-after s.directory x.container x.key (saved-entry x))) p idle
+abbrev pub after_commit : State → ℕ → SavingValue → State
+after_commit s p x = with_slot (with_directory s (commit_after s.directory x.container x.key (saved_entry x))) p idle
 
 -- ---- deleting
 
-abbrev pub deleted-entry : StampValue → EntryValue
-deleted-entry stamp = record { stamp = stamp; live = None }
+abbrev pub deleted_entry : StampValue → EntryValue
+deleted_entry stamp = record { stamp = stamp; live = None }
 
-abbrev pub after-delete : State → ℕ → ℕ → List ℕ → State
-after-delete s p c k = with-directory s (commit-after s.directory c k (deleted-entry (new-stamp s p c k)))
+abbrev pub after_delete : State → ℕ → ℕ → List ℕ → State
+after_delete s p c k = with_directory s (commit_after s.directory c k (deleted_entry (new_stamp s p c k)))
 
 -- ---- fetching
 
@@ -128,32 +128,32 @@ abbrev pub size_of : Option LiveValue → ℕ
 size_of None = 0
 size_of (Some l) = l.size
 
-abbrev pub found-entry : Option EntryValue → FoundValue
-found-entry e = record { stamp = stamp-of e; size = size_of (live_of e) }
+abbrev pub found_entry : Option EntryValue → FoundValue
+found_entry e = record { stamp = stamp_of e; size = size_of (live_of e) }
 
 -- a fetch of the key that has looked: over where no value is there
-abbrev pub fetch-of : ℕ → List ℕ → StampValue → Option LiveValue → SlotValue
-fetch-of c k stamp None = idle
-fetch-of c k stamp (Some l) = fetching (record { container = c; key = k; stamp = stamp; live = l })
+abbrev pub fetch_of : ℕ → List ℕ → StampValue → Option LiveValue → SlotValue
+fetch_of c k stamp None = idle
+fetch_of c k stamp (Some l) = fetching (record { container = c; key = k; stamp = stamp; live = l })
 
 abbrev pub after_look : State → ℕ → ℕ → List ℕ → State
-after_look s p c k = with-slot s p (fetch-of c k (stamp-of (entry_of s.directory c k)) (live_of (entry_of s.directory c k)))
+after_look s p c k = with_slot s p (fetch_of c k (stamp_of (entry_of s.directory c k)) (live_of (entry_of s.directory c k)))
 
 -- what the cloud gave has the size and the digest of what was saved
-abbrev pub is-saved-value : Setting → LiveValue → ℕ → List ℕ → Bool
-is-saved-value S l n part = n == l.size && bytes_eq l.digest (S.digested part)
+abbrev pub is_saved_value : Setting → LiveValue → ℕ → List ℕ → Bool
+is_saved_value S l n part = n == l.size && bytes_eq l.digest (S.digested part)
 
-abbrev pub try-answer : Setting → FetchingValue → ℕ → Length → List ℕ → Result ℕ Refusal
-try-answer S x i (Ok n) part = cond (is-saved-value S x.live n part) (Ok x.live.size) (Err ValueMismatch)
-try-answer S x i (Err e) part = cloud-refused i e
+abbrev pub try_answer : Setting → FetchingValue → ℕ → Length → List ℕ → Result ℕ Refusal
+try_answer S x i (Ok n) part = cond (is_saved_value S x.live n part) (Ok x.live.size) (Err ValueMismatch)
+try_answer S x i (Err e) part = cloud_refused i e
 
 -- what then stands in the part: the value, or zeros
-abbrev pub part-after : Setting → FetchingValue → Length → List ℕ → List ℕ
-part-after S x (Ok n) part = cond (is-saved-value S x.live n part) part (replicate x.live.size 0)
-part-after S x (Err e) part = replicate x.live.size 0
+abbrev pub part_after : Setting → FetchingValue → Length → List ℕ → List ℕ
+part_after S x (Ok n) part = cond (is_saved_value S x.live n part) part (replicate x.live.size 0)
+part_after S x (Err e) part = replicate x.live.size 0
 
 abbrev pub after_try : Setting → State → ℕ → FetchingValue → Length → List ℕ → State
-after_try S s p x (Ok n) part = cond (is-saved-value S x.live n part) (with-slot s p idle) s
+after_try S s p x (Ok n) part = cond (is_saved_value S x.live n part) (with_slot s p idle) s
 after_try S s p x (Err e) part = s
 
 -- the cloud is lent the first bytes of the buffer, as many as the value has
@@ -161,61 +161,61 @@ pub record Tries (S : Setting) (s : State) (p i : ℕ) (x : FetchingValue) (buff
   pub said : Length
   pub part : List ℕ
   pub whole : length part ≡ x.live.size
-  pub cloud : Called s.clouds i s'.clouds (λ m m'. Get-outcome m (name_of x.container x.key x.stamp) (take x.live.size buffer) said part m') ((said ≡ Err Silent) × (part ≡ take x.live.size buffer))
-  pub answers : r ≡ try-answer S x i said part
-  pub writes : buffer' ≡ part-after S x said part ++ drop x.live.size buffer
-  pub leaves : s' ≡ with-clouds (after_try S s p x said part) s'.clouds
+  pub cloud : Called s.clouds i s'.clouds (λ m m'. GetOutcome m (name_of x.container x.key x.stamp) (take x.live.size buffer) said part m') ((said ≡ Err Silent) × (part ≡ take x.live.size buffer))
+  pub answers : r ≡ try_answer S x i said part
+  pub writes : buffer' ≡ part_after S x said part ++ drop x.live.size buffer
+  pub leaves : s' ≡ with_clouds (after_try S s p x said part) s'.clouds
 
 -- ---- sweeping
 
-abbrev pub next-at : ℕ → List CloudMeaning → List ℕ → List ℕ → NextLength → List ℕ → List CloudMeaning → Type 0
-next-at i ms above place r place' ms' = Called ms i ms' (λ m m'. Next-outcome m above place r place' m') ((r ≡ Err Silent) × (place' ≡ place))
+abbrev pub next_at : ℕ → List CloudMeaning → List ℕ → List ℕ → NextLength → List ℕ → List CloudMeaning → Type 0
+next_at i ms above place r place' ms' = Called ms i ms' (λ m m'. NextOutcome m above place r place' m') ((r ≡ Err Silent) × (place' ≡ place))
 
 abbrev pub drop_at : ℕ → List CloudMeaning → List ℕ → Done → List CloudMeaning → Type 0
-drop_at i ms name r ms' = Called ms i ms' (λ m m'. Drop-outcome m name r m') (r ≡ Err Silent)
+drop_at i ms name r ms' = Called ms i ms' (λ m m'. DropOutcome m name r m') (r ≡ Err Silent)
 
-abbrev pub sweep-answer : ℕ → Result ℕ Cause → Result ℕ Refusal
-sweep-answer i (Ok n) = Ok n
-sweep-answer i (Err e) = cloud-refused i e
+abbrev pub sweep_answer : ℕ → Result ℕ Cause → Result ℕ Refusal
+sweep_answer i (Ok n) = Ok n
+sweep_answer i (Err e) = cloud_refused i e
 
 pub record Sweeps (s : State) (i : ℕ) (x : SweepingValue) (r : Result ℕ Refusal) (s' : State) : Type 0 where
   pub said : Result ℕ Cause
-  pub chain : Swept (next-at i) (drop_at i) x s.clouds s'.clouds said
-  pub answers : r ≡ sweep-answer i said
-  pub leaves : s' ≡ with-clouds s s'.clouds
+  pub chain : Swept (next_at i) (drop_at i) x s.clouds s'.clouds said
+  pub answers : r ≡ sweep_answer i said
+  pub leaves : s' ≡ with_clouds s s'.clouds
 
 -- ---- listing
 
 pub record Lists (ground : Option Refusal) (s : State) (keys : List (List ℕ)) (buffer buffer' : List ℕ) (r : Result Listed Refusal) (s' : State) : Type 0 where
-  pub answers : r ≡ or-refused ground (record { count = length keys; bytes = length (listing keys) })
+  pub answers : r ≡ or_refused ground (record { count = length keys; bytes = length (listing keys) })
   pub writes : buffer' ≡ or_kept ground buffer (over (listing keys) buffer)
   pub leaves : s' ≡ s
 
 -- ---- every call
 
 abbrev pub Step : Setting → State → Event → State → Type 0
-Step S s (began-save p c k v r) s' =
-    Does (first-ground S (begin-save p c k v) s) (new-stamp s p c k) (with-slot s p (saving (begun S s p c k v))) s r s'
+Step S s (began_save p c k v r) s' =
+    Does (first_ground S (begin_save p c k v) s) (new_stamp s p c k) (with_slot s p (saving (begun S s p c k v))) s r s'
 Step S s (stored p i v r) s' =
-    Asks (first-ground S (store p i v) s) (Stores s p i v (saving-of (slot_of s p)) r s') s r s'
+    Asks (first_ground S (store p i v) s) (Stores s p i v (saving_of (slot_of s p)) r s') s r s'
 Step S s (committed p r) s' =
-    Does (first-ground S (commit p) s) (commit-outcome (commit-answer s.directory (saving-of (slot_of s p)).container (saving-of (slot_of s p)).key (saved-entry (saving-of (slot_of s p))))) (after-commit s p (saving-of (slot_of s p))) s r s'
+    Does (first_ground S (commit p) s) (commit_outcome (commit_answer s.directory (saving_of (slot_of s p)).container (saving_of (slot_of s p)).key (saved_entry (saving_of (slot_of s p))))) (after_commit s p (saving_of (slot_of s p))) s r s'
 Step S s (deleted p c k r) s' =
-    Does (first-ground S (delete p c k) s) (new-stamp s p c k) (after-delete s p c k) s r s'
-Step S s (began-fetch p c k r) s' =
-    Does (first-ground S (begin-fetch p c k) s) (found-entry (entry_of s.directory c k)) (after_look s p c k) s r s'
+    Does (first_ground S (delete p c k) s) (new_stamp s p c k) (after_delete s p c k) s r s'
+Step S s (began_fetch p c k r) s' =
+    Does (first_ground S (begin_fetch p c k) s) (found_entry (entry_of s.directory c k)) (after_look s p c k) s r s'
 Step S s (tried p i buffer buffer' r) s' =
-    Asks (first-ground S (try-cloud p i buffer) s) (Tries S s p i (fetching-of (slot_of s p)) buffer buffer' r s') s r s'
-    × or-unwritten (first-ground S (try-cloud p i buffer) s) buffer buffer'
-Step S s (looked-again p r) s' =
-    (r ≡ or-refused (first-ground S (look-again p) s) (found-entry (entry_of s.directory (fetching-of (slot_of s p)).container (fetching-of (slot_of s p)).key)))
+    Asks (first_ground S (try_cloud p i buffer) s) (Tries S s p i (fetching_of (slot_of s p)) buffer buffer' r s') s r s'
+    × or_unwritten (first_ground S (try_cloud p i buffer) s) buffer buffer'
+Step S s (looked_again p r) s' =
+    (r ≡ or_refused (first_ground S (look_again p) s) (found_entry (entry_of s.directory (fetching_of (slot_of s p)).container (fetching_of (slot_of s p)).key)))
     -- a fetch whose key has no value any more is over
-    × (s' ≡ or_kept (first_of (caller-grounds ++ slot-grounds) S (look-again p) s) s (after_look s p (fetching-of (slot_of s p)).container (fetching-of (slot_of s p)).key))
-Step S s (began-sweep p c k r) s' =
-    Does (first-ground S (begin-sweep p c k) s) (stamp-of (entry_of s.directory c k)) (with-slot s p (sweeping (record { container = c; key = k; stamp = stamp-of (entry_of s.directory c k) }))) s r s'
+    × (s' ≡ or_kept (first_of (caller_grounds ++ slot_grounds) S (look_again p) s) s (after_look s p (fetching_of (slot_of s p)).container (fetching_of (slot_of s p)).key))
+Step S s (began_sweep p c k r) s' =
+    Does (first_ground S (begin_sweep p c k) s) (stamp_of (entry_of s.directory c k)) (with_slot s p (sweeping (record { container = c; key = k; stamp = stamp_of (entry_of s.directory c k) }))) s r s'
 Step S s (swept p i r) s' =
-    Asks (first-ground S (sweep p i) s) (Sweeps s i (sweeping-of (slot_of s p)) r s') s r s'
+    Asks (first_ground S (sweep p i) s) (Sweeps s i (sweeping_of (slot_of s p)) r s') s r s'
 Step S s (left p r) s' =
-    Does (first-ground S (leave p) s) tt (with-slot s p idle) s r s'
+    Does (first_ground S (leave p) s) tt (with_slot s p idle) s r s'
 Step S s (listed c buffer buffer' r) s' =
-    Lists (first-ground S (list c buffer) s) s (keys_of s.directory c) buffer buffer' r s'
+    Lists (first_ground S (list c buffer) s) s (keys_of s.directory c) buffer buffer' r s'

@@ -6,74 +6,74 @@ use Rattle.refusal.specs.declared.CloudFault.{CloudFault}
 use Rattle.refusal.specs.declared.Refusal.{Refusal}
 use Rattle.refusal.specs.declared.Refusal.TheVariants.{UnsupportedRow, UnsupportedStorage, CorruptJournal, UnknownParty, InvalidKey, ValueTooLong, UnknownCloud, SlotBusy, SlotNotReady, DifferentValue, AlreadyStored, TooFewStored, CloudNotListed, NoEntry, SequenceExhausted, DirectoryFull, BufferTooShort, CloudRefused, ValueMismatch}
 
-abbrev pub cause-number : Cause → ℕ
-cause-number Full = 1
-cause-number TooLong = 2
-cause-number NotHeld = 3
-cause-number Silent = 4
-cause-number BadListing = 5
+abbrev pub cause_number : Cause → ℕ
+cause_number Full = 1
+cause_number TooLong = 2
+cause_number NotHeld = 3
+cause_number Silent = 4
+cause_number BadListing = 5
 
-abbrev pub refusal-number : Refusal → ℕ
-refusal-number UnsupportedRow = 1
-refusal-number UnsupportedStorage = 2
-refusal-number (CorruptJournal offset) = 3
-refusal-number UnknownParty = 4
-refusal-number InvalidKey = 5
-refusal-number ValueTooLong = 6
-refusal-number UnknownCloud = 7
-refusal-number SlotBusy = 8
-refusal-number SlotNotReady = 9
-refusal-number DifferentValue = 10
-refusal-number AlreadyStored = 11
-refusal-number TooFewStored = 12
-refusal-number CloudNotListed = 13
-refusal-number NoEntry = 14
-refusal-number SequenceExhausted = 15
-refusal-number DirectoryFull = 16
-refusal-number BufferTooShort = 17
-refusal-number (CloudRefused fault) = 18
-refusal-number ValueMismatch = 19
+abbrev pub refusal_number : Refusal → ℕ
+refusal_number UnsupportedRow = 1
+refusal_number UnsupportedStorage = 2
+refusal_number (CorruptJournal offset) = 3
+refusal_number UnknownParty = 4
+refusal_number InvalidKey = 5
+refusal_number ValueTooLong = 6
+refusal_number UnknownCloud = 7
+refusal_number SlotBusy = 8
+refusal_number SlotNotReady = 9
+refusal_number DifferentValue = 10
+refusal_number AlreadyStored = 11
+refusal_number TooFewStored = 12
+refusal_number CloudNotListed = 13
+refusal_number NoEntry = 14
+refusal_number SequenceExhausted = 15
+refusal_number DirectoryFull = 16
+refusal_number BufferTooShort = 17
+refusal_number (CloudRefused fault) = 18
+refusal_number ValueMismatch = 19
 
 -- where the first bad record of a journal begins
-abbrev pub refusal-offset : Refusal → Option ℕ
-refusal-offset UnsupportedRow = None
-refusal-offset UnsupportedStorage = None
-refusal-offset (CorruptJournal offset) = Some offset
-refusal-offset UnknownParty = None
-refusal-offset InvalidKey = None
-refusal-offset ValueTooLong = None
-refusal-offset UnknownCloud = None
-refusal-offset SlotBusy = None
-refusal-offset SlotNotReady = None
-refusal-offset DifferentValue = None
-refusal-offset AlreadyStored = None
-refusal-offset TooFewStored = None
-refusal-offset CloudNotListed = None
-refusal-offset NoEntry = None
-refusal-offset SequenceExhausted = None
-refusal-offset DirectoryFull = None
-refusal-offset BufferTooShort = None
-refusal-offset (CloudRefused fault) = None
-refusal-offset ValueMismatch = None
+abbrev pub refusal_offset : Refusal → Option ℕ
+refusal_offset UnsupportedRow = None
+refusal_offset UnsupportedStorage = None
+refusal_offset (CorruptJournal offset) = Some offset
+refusal_offset UnknownParty = None
+refusal_offset InvalidKey = None
+refusal_offset ValueTooLong = None
+refusal_offset UnknownCloud = None
+refusal_offset SlotBusy = None
+refusal_offset SlotNotReady = None
+refusal_offset DifferentValue = None
+refusal_offset AlreadyStored = None
+refusal_offset TooFewStored = None
+refusal_offset CloudNotListed = None
+refusal_offset NoEntry = None
+refusal_offset SequenceExhausted = None
+refusal_offset DirectoryFull = None
+refusal_offset BufferTooShort = None
+refusal_offset (CloudRefused fault) = None
+refusal_offset ValueMismatch = None
 
 -- which cloud refused, and why
-abbrev pub refusal-fault : Refusal → Option CloudFault
-refusal-fault UnsupportedRow = None
-refusal-fault UnsupportedStorage = None
-refusal-fault (CorruptJournal offset) = None
-refusal-fault UnknownParty = None
-refusal-fault InvalidKey = None
-refusal-fault ValueTooLong = None
-refusal-fault UnknownCloud = None
-refusal-fault SlotBusy = None
-refusal-fault SlotNotReady = None
-refusal-fault DifferentValue = None
-refusal-fault AlreadyStored = None
-refusal-fault TooFewStored = None
-refusal-fault CloudNotListed = None
-refusal-fault NoEntry = None
-refusal-fault SequenceExhausted = None
-refusal-fault DirectoryFull = None
-refusal-fault BufferTooShort = None
-refusal-fault (CloudRefused fault) = Some fault
-refusal-fault ValueMismatch = None
+abbrev pub refusal_fault : Refusal → Option CloudFault
+refusal_fault UnsupportedRow = None
+refusal_fault UnsupportedStorage = None
+refusal_fault (CorruptJournal offset) = None
+refusal_fault UnknownParty = None
+refusal_fault InvalidKey = None
+refusal_fault ValueTooLong = None
+refusal_fault UnknownCloud = None
+refusal_fault SlotBusy = None
+refusal_fault SlotNotReady = None
+refusal_fault DifferentValue = None
+refusal_fault AlreadyStored = None
+refusal_fault TooFewStored = None
+refusal_fault CloudNotListed = None
+refusal_fault NoEntry = None
+refusal_fault SequenceExhausted = None
+refusal_fault DirectoryFull = None
+refusal_fault BufferTooShort = None
+refusal_fault (CloudRefused fault) = Some fault
+refusal_fault ValueMismatch = None

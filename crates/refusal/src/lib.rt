@@ -1,6 +1,6 @@
 // Why a call is refused, and why a cloud refused what it was asked.
 ghost use Rattle.std.specs.Prelude.{◌≡◌};
-ghost use Rattle.refusal.specs.Numbers.{cause-number, refusal-fault, refusal-number, refusal-offset};
+ghost use Rattle.refusal.specs.Numbers.{cause_number, refusal_fault, refusal_number, refusal_offset};
 ghost use Rattle.refusal.specs.declared.Refusal.TheVariants.{CloudRefused};
 
 /// Why a cloud did not do what it was asked.
@@ -21,7 +21,7 @@ pub enum Cause {
 impl Cause {
     /// The number by which the cause is reported.
     pub fn number(&self) -> u8
-        ensures { result ≡ cause-number self.now }
+        ensures { result ≡ cause_number self.now }
     {
         match self {
             Cause::Full => 1,
@@ -92,7 +92,7 @@ pub enum Refusal {
 impl Refusal {
     /// The number by which the refusal is reported.
     pub fn number(&self) -> u8
-        ensures { result ≡ refusal-number self.now }
+        ensures { result ≡ refusal_number self.now }
     {
         match self {
             Refusal::UnsupportedRow => 1,
@@ -119,7 +119,7 @@ impl Refusal {
 
     /// Where the first bad record begins, in bytes from 0, of a corrupt journal.
     pub fn offset(&self) -> Option<usize>
-        ensures { result ≡ refusal-offset self.now }
+        ensures { result ≡ refusal_offset self.now }
     {
         match self {
             Refusal::CorruptJournal { offset } => Some(*offset),
@@ -129,7 +129,7 @@ impl Refusal {
 
     /// Which cloud refused, and why, where one did.
     pub fn fault(&self) -> Option<CloudFault>
-        ensures { result ≡ refusal-fault self.now }
+        ensures { result ≡ refusal_fault self.now }
     {
         match self {
             Refusal::CloudRefused(fault) => Some(*fault),

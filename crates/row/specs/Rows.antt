@@ -5,8 +5,8 @@ use Rattle.refusal.specs.declared.CloudFault.{CloudFault}
 use Rattle.cloud.specs.Meaning.{CloudMeaning}
 
 -- what stands past the end of a row, where a list is read by number
-abbrev pub no-cloud : CloudMeaning
-no-cloud = record { sound = false; held = []; free = 0 }
+abbrev pub no_cloud : CloudMeaning
+no_cloud = record { sound = false; held = []; free = 0 }
 
 -- how far a number lies past the last cloud; none where it is a cloud's
 abbrev pub number_past : List CloudMeaning → ℕ → Option ℕ
@@ -15,8 +15,8 @@ number_past ms i = cond (nat_lt i (length ms)) None (Some (i - length ms))
 -- A call at the cloud i of the row ms leaves the row ms': the cloud did R, the others stay.
 -- A number that no cloud has is answered by U, and the row stays.
 pub record Called (ms : List CloudMeaning) (i : ℕ) (ms' : List CloudMeaning) (R : CloudMeaning → CloudMeaning → Type 0) (U : Type 0) : Type 0 where
-  pub here : i < length ms → R (slice_index_or ms i no-cloud) (slice_index_or ms' i no-cloud)
-  pub others : ms' ≡ slice_set ms i (slice_index_or ms' i no-cloud)
+  pub here : i < length ms → R (slice_index_or ms i no_cloud) (slice_index_or ms' i no_cloud)
+  pub others : ms' ≡ slice_set ms i (slice_index_or ms' i no_cloud)
   pub unknown : length ms ≤ i → U
 
 -- one of two facts, by a test

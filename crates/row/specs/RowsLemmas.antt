@@ -4,64 +4,64 @@ use Rattle.std.proofs.Common.{sym, ◌∙◌, ap, ⊎_elim, arith, length-set, l
 use Rattle.std.proofs.lemmas.List.{get_or_append_left, set-append_left, get_or-append_right, set-append_right}
 use Rattle.std.proofs.lemmas.Bool.{cases_Bool, cases_lt, ne_eqb}
 use Rattle.std.proofs.lemmas.Bool.Decides.{nat_tests}
-use Rattle.cloud.specs.Meaning.{CloudMeaning, Within-limits}
-use Rattle.row.specs.Rows.{no-cloud, number_past, Called, If}
+use Rattle.cloud.specs.Meaning.{CloudMeaning, WithinLimits}
+use Rattle.row.specs.Rows.{no_cloud, number_past, Called, If}
 
 -- ---- a row of one cloud
 
-pub called-single : {S : Type 0} (f : S → CloudMeaning) (s t : S) (i : ℕ) (R : CloudMeaning → CloudMeaning → Type 0) (U P : Type 0) → (P → R (f s) (f t)) → If (i == 0) P (U × (t ≡ s))
+pub called_single : {S : Type 0} (f : S → CloudMeaning) (s t : S) (i : ℕ) (R : CloudMeaning → CloudMeaning → Type 0) (U P : Type 0) → (P → R (f s) (f t)) → If (i == 0) P (U × (t ≡ s))
     → Called (f s ∷ []) i (f t ∷ []) R U
-called-single f s t zero R U P h c = record { here = λ _. h c; others = refl; unknown = λ l. absurd (omega arith) }
-called-single f s t (suc i) R U P h c =
+called_single f s t zero R U P h c = record { here = λ _. h c; others = refl; unknown = λ l. absurd (omega arith) }
+called_single f s t (suc i) R U P h c =
     let d : U × (t ≡ s) = rw (ne_eqb (suc i) 0 (λ e. omega arith)) at c in
     record { here = λ l. absurd (omega arith); others = ap (λ x. f x ∷ []) d.1; unknown = λ _. d.0 }
 
 -- ---- two rows joined
 
 module _ (R : CloudMeaning → CloudMeaning → Type 0) (U : Type 0) where
-  called-length : (ms ms' : List CloudMeaning) (i : ℕ) → Called ms i ms' R U → length ms' ≡ length ms
-  called-length ms ms' i c = ap length c.others ∙ simp length-set
+  called_length : (ms ms' : List CloudMeaning) (i : ℕ) → Called ms i ms' R U → length ms' ≡ length ms
+  called_length ms ms' i c = ap length c.others ∙ simp length-set
 
-  pub called-left : (ls ls' rs : List CloudMeaning) (i : ℕ) → i < length ls → Called ls i ls' R U → Called (ls ++ rs) i (ls' ++ rs) R U
-  called-left ls ls' rs i l c =
-      let l' : i < length ls' = omega (arith, called-length ls ls' i c) in
+  pub called_left : (ls ls' rs : List CloudMeaning) (i : ℕ) → i < length ls → Called ls i ls' R U → Called (ls ++ rs) i (ls' ++ rs) R U
+  called_left ls ls' rs i l c =
+      let l' : i < length ls' = omega (arith, called_length ls ls' i c) in
       record {
-        here = λ _. rw (get_or_append_left ls rs no-cloud i l, get_or_append_left ls' rs no-cloud i l') (c.here l);
-        others = rw (get_or_append_left ls' rs no-cloud i l', set-append_left ls rs i (slice_index_or ls' i no-cloud) l) (ap (λ x. x ++ rs) c.others);
+        here = λ _. rw (get_or_append_left ls rs no_cloud i l, get_or_append_left ls' rs no_cloud i l') (c.here l);
+        others = rw (get_or_append_left ls' rs no_cloud i l', set-append_left ls rs i (slice_index_or ls' i no_cloud) l) (ap (λ x. x ++ rs) c.others);
         unknown = λ u. absurd (omega (arith, length-append ls rs));
       }
 
-  pub called-right : (ls rs rs' : List CloudMeaning) (i : ℕ) → length ls ≤ i → Called rs (i - length ls) rs' R U → Called (ls ++ rs) i (ls ++ rs') R U
-  called-right ls rs rs' i l c =
+  pub called_right : (ls rs rs' : List CloudMeaning) (i : ℕ) → length ls ≤ i → Called rs (i - length ls) rs' R U → Called (ls ++ rs) i (ls ++ rs') R U
+  called_right ls rs rs' i l c =
       let n = length ls in
       record {
-        here = λ h. rw (get_or-append_right ls rs n i no-cloud refl l, get_or-append_right ls rs' n i no-cloud refl l) (c.here (omega (arith, length-append ls rs)));
-        others = rw (get_or-append_right ls rs' n i no-cloud refl l, set-append_right ls rs n i (slice_index_or rs' (i - n) no-cloud) refl l) (ap (λ x. ls ++ x) c.others);
+        here = λ h. rw (get_or-append_right ls rs n i no_cloud refl l, get_or-append_right ls rs' n i no_cloud refl l) (c.here (omega (arith, length-append ls rs)));
+        others = rw (get_or-append_right ls rs' n i no_cloud refl l, set-append_right ls rs n i (slice_index_or rs' (i - n) no_cloud) refl l) (ap (λ x. ls ++ x) c.others);
         unknown = λ u. c.unknown (omega (arith, length-append ls rs));
       }
 
 -- the side that a number belongs to
-pub called-pair : {L M : Type 0} (f : L → List CloudMeaning) (g : M → List CloudMeaning) (l l' : L) (r r' : M) (i : ℕ) (R : CloudMeaning → CloudMeaning → Type 0) (U P Q : Type 0)
+pub called_pair : {L M : Type 0} (f : L → List CloudMeaning) (g : M → List CloudMeaning) (l l' : L) (r r' : M) (i : ℕ) (R : CloudMeaning → CloudMeaning → Type 0) (U P Q : Type 0)
     → (P → Called (f l) i (f l') R U) → (Q → Called (g r) (i - length (f l)) (g r') R U)
     → If (nat_lt i (length (f l))) (P × (r' ≡ r)) (Q × (l' ≡ l)) → Called (f l ++ g r) i (f l' ++ g r') R U
-called-pair f g l l' r r' i R U P Q left right c =
-    ⊎_elim (λ (b : ltb i (length (f l)) ≡ true). let d : P × (r' ≡ r) = rw b at c in rw d.1 (called-left R U (f l) (f l') (g r) i (ltb-true i (length (f l)) b) (left d.0)))
-    (λ (b : ltb i (length (f l)) ≡ false). let d : Q × (l' ≡ l) = rw b at c in rw d.1 (called-right R U (f l) (g r) (g r') i (ltb-false i (length (f l)) b) (right d.0)))
+called_pair f g l l' r r' i R U P Q left right c =
+    ⊎_elim (λ (b : ltb i (length (f l)) ≡ true). let d : P × (r' ≡ r) = rw b at c in rw d.1 (called_left R U (f l) (f l') (g r) i (ltb-true i (length (f l)) b) (left d.0)))
+    (λ (b : ltb i (length (f l)) ≡ false). let d : Q × (l' ≡ l) = rw b at c in rw d.1 (called_right R U (f l) (g r) (g r') i (ltb-false i (length (f l)) b) (right d.0)))
     (cases_Bool (nat_lt i (length (f l))))
 
 -- ---- numbers past a row
 
-pub past-left : (ls rs : List CloudMeaning) (i : ℕ) → number_past ls i ≡ None → number_past (ls ++ rs) i ≡ None
-past-left ls rs i h = let e = length-append ls rs in grind (arith, nat_tests)
+pub past_left : (ls rs : List CloudMeaning) (i : ℕ) → number_past ls i ≡ None → number_past (ls ++ rs) i ≡ None
+past_left ls rs i h = let e = length-append ls rs in grind (arith, nat_tests)
 
-pub past-both : (ls rs : List CloudMeaning) (i j : ℕ) → number_past ls i ≡ Some j → number_past (ls ++ rs) i ≡ number_past rs j
-past-both ls rs i j h = let e = length-append ls rs in grind (arith, nat_tests)
+pub past_both : (ls rs : List CloudMeaning) (i j : ℕ) → number_past ls i ≡ Some j → number_past (ls ++ rs) i ≡ number_past rs j
+past_both ls rs i j h = let e = length-append ls rs in grind (arith, nat_tests)
 
 -- ---- limits
 
-pub pair-limited : (ls rs : List CloudMeaning) → ((i : ℕ) → i < length ls → Within-limits (slice_index_or ls i no-cloud)) → ((i : ℕ) → i < length rs → Within-limits (slice_index_or rs i no-cloud))
-    → (i : ℕ) → i < length (ls ++ rs) → Within-limits (slice_index_or (ls ++ rs) i no-cloud)
-pair-limited ls rs left right i h =
-    ⊎_elim (λ (l : i < length ls). rw (get_or_append_left ls rs no-cloud i l) (left i l))
-    (λ (l : length ls ≤ i). rw (get_or-append_right ls rs (length ls) i no-cloud refl l) (right (i - length ls) (omega (arith, length-append ls rs))))
+pub pair_limited : (ls rs : List CloudMeaning) → ((i : ℕ) → i < length ls → WithinLimits (slice_index_or ls i no_cloud)) → ((i : ℕ) → i < length rs → WithinLimits (slice_index_or rs i no_cloud))
+    → (i : ℕ) → i < length (ls ++ rs) → WithinLimits (slice_index_or (ls ++ rs) i no_cloud)
+pair_limited ls rs left right i h =
+    ⊎_elim (λ (l : i < length ls). rw (get_or_append_left ls rs no_cloud i l) (left i l))
+    (λ (l : length ls ≤ i). rw (get_or-append_right ls rs (length ls) i no_cloud refl l) (right (i - length ls) (omega (arith, length-append ls rs))))
     (cases_lt i (length ls))

@@ -2,9 +2,9 @@
 
 ghost use Rattle.std.specs.Prelude.{◌≡◌, ℕ, ◌<◌, List, length, Ok, Err, slice_index_or};
 ghost use Rattle.refusal.specs.declared.Cause.TheVariants.{Silent};
-ghost use Rattle.cloud.specs.Meaning.{CloudMeaning, Within-limits};
-ghost use Rattle.cloud.specs.Outcomes.{Done, Length, NextLength, Put-outcome, Get-outcome, Drop-outcome, Next-outcome};
-ghost use Rattle.row.specs.Rows.{Called, no-cloud, number_past};
+ghost use Rattle.cloud.specs.Meaning.{CloudMeaning, WithinLimits};
+ghost use Rattle.cloud.specs.Outcomes.{Done, Length, NextLength, PutOutcome, GetOutcome, DropOutcome, NextOutcome};
+ghost use Rattle.row.specs.Rows.{Called, no_cloud, number_past};
 
 use refusal::Cause;
 
@@ -42,13 +42,13 @@ pub trait Row {
     ) -> Result<Option<usize>, Cause>
         ensures { nexts self.old number above.now place.old result place.new self.new };
 
-    ghost limited: { (s : Self) (i : ℕ) → i < length (clouds s) → Within-limits (slice_index_or (clouds s) i no-cloud) };
+    ghost limited: { (s : Self) (i : ℕ) → i < length (clouds s) → WithinLimits (slice_index_or (clouds s) i no_cloud) };
 
-    ghost putting: { (s : Self) (i : ℕ) (name value : List ℕ) (r : Done) (t : Self) → puts s i name value r t → Called (clouds s) i (clouds t) (λ m m'. Put-outcome m name value r m') (r ≡ Err Silent) };
+    ghost putting: { (s : Self) (i : ℕ) (name value : List ℕ) (r : Done) (t : Self) → puts s i name value r t → Called (clouds s) i (clouds t) (λ m m'. PutOutcome m name value r m') (r ≡ Err Silent) };
 
-    ghost getting: { (s : Self) (i : ℕ) (name part : List ℕ) (r : Length) (part' : List ℕ) (t : Self) → gets s i name part r part' t → Called (clouds s) i (clouds t) (λ m m'. Get-outcome m name part r part' m') ((r ≡ Err Silent) × (part' ≡ part)) };
+    ghost getting: { (s : Self) (i : ℕ) (name part : List ℕ) (r : Length) (part' : List ℕ) (t : Self) → gets s i name part r part' t → Called (clouds s) i (clouds t) (λ m m'. GetOutcome m name part r part' m') ((r ≡ Err Silent) × (part' ≡ part)) };
 
-    ghost dropping: { (s : Self) (i : ℕ) (name : List ℕ) (r : Done) (t : Self) → drops s i name r t → Called (clouds s) i (clouds t) (λ m m'. Drop-outcome m name r m') (r ≡ Err Silent) };
+    ghost dropping: { (s : Self) (i : ℕ) (name : List ℕ) (r : Done) (t : Self) → drops s i name r t → Called (clouds s) i (clouds t) (λ m m'. DropOutcome m name r m') (r ≡ Err Silent) };
 
-    ghost nexting: { (s : Self) (i : ℕ) (above place : List ℕ) (r : NextLength) (place' : List ℕ) (t : Self) → nexts s i above place r place' t → Called (clouds s) i (clouds t) (λ m m'. Next-outcome m above place r place' m') ((r ≡ Err Silent) × (place' ≡ place)) };
+    ghost nexting: { (s : Self) (i : ℕ) (above place : List ℕ) (r : NextLength) (place' : List ℕ) (t : Self) → nexts s i above place r place' t → Called (clouds s) i (clouds t) (λ m m'. NextOutcome m above place r place' m') ((r ≡ Err Silent) × (place' ≡ place)) };
 }

@@ -2,9 +2,9 @@
 
 ghost use Rattle.std.specs.Prelude.{◌≡◌, ◌-◌, ◌++◌, length, Err, nat_lt};
 ghost use Rattle.row.specs.Rows.{If};
-ghost use Rattle.row.specs.RowsLemmas.{pair-limited, called-pair};
+ghost use Rattle.row.specs.RowsLemmas.{pair_limited, called_pair};
 ghost use Rattle.refusal.specs.declared.Cause.TheVariants.{Silent};
-ghost use Rattle.cloud.specs.Outcomes.{Put-outcome, Get-outcome, Drop-outcome, Next-outcome};
+ghost use Rattle.cloud.specs.Outcomes.{PutOutcome, GetOutcome, DropOutcome, NextOutcome};
 
 use crate::interface::Row;
 use refusal::Cause;
@@ -27,28 +27,28 @@ impl<L: Row, R: Row> Row for Pair<L, R> {
 
     ghost nexts = { λ s i above place r place' t. If (nat_lt i (length (L.Row.clouds s.left))) (L.Row.nexts s.left i above place r place' t.left × (t.right ≡ s.right)) (R.Row.nexts s.right (i - length (L.Row.clouds s.left)) above place r place' t.right × (t.left ≡ s.left)) };
 
-    ghost limited = { λ s i h. pair-limited (L.Row.clouds s.left) (R.Row.clouds s.right) (L.Row.limited s.left) (R.Row.limited s.right) i h };
+    ghost limited = { λ s i h. pair_limited (L.Row.clouds s.left) (R.Row.clouds s.right) (L.Row.limited s.left) (R.Row.limited s.right) i h };
 
     ghost putting = { λ s i name value r t h.
-        called-pair L.Row.clouds R.Row.clouds s.left t.left s.right t.right i (λ m m'. Put-outcome m name value r m') (r ≡ Err Silent) _ _
+        called_pair L.Row.clouds R.Row.clouds s.left t.left s.right t.right i (λ m m'. PutOutcome m name value r m') (r ≡ Err Silent) _ _
         (L.Row.putting s.left i name value r t.left)
         (R.Row.putting s.right (i - length (L.Row.clouds s.left)) name value r t.right)
         h };
 
     ghost getting = { λ s i name part r part' t h.
-        called-pair L.Row.clouds R.Row.clouds s.left t.left s.right t.right i (λ m m'. Get-outcome m name part r part' m') ((r ≡ Err Silent) × (part' ≡ part)) _ _
+        called_pair L.Row.clouds R.Row.clouds s.left t.left s.right t.right i (λ m m'. GetOutcome m name part r part' m') ((r ≡ Err Silent) × (part' ≡ part)) _ _
         (L.Row.getting s.left i name part r part' t.left)
         (R.Row.getting s.right (i - length (L.Row.clouds s.left)) name part r part' t.right)
         h };
 
     ghost dropping = { λ s i name r t h.
-        called-pair L.Row.clouds R.Row.clouds s.left t.left s.right t.right i (λ m m'. Drop-outcome m name r m') (r ≡ Err Silent) _ _
+        called_pair L.Row.clouds R.Row.clouds s.left t.left s.right t.right i (λ m m'. DropOutcome m name r m') (r ≡ Err Silent) _ _
         (L.Row.dropping s.left i name r t.left)
         (R.Row.dropping s.right (i - length (L.Row.clouds s.left)) name r t.right)
         h };
 
     ghost nexting = { λ s i above place r place' t h.
-        called-pair L.Row.clouds R.Row.clouds s.left t.left s.right t.right i (λ m m'. Next-outcome m above place r place' m') ((r ≡ Err Silent) × (place' ≡ place)) _ _
+        called_pair L.Row.clouds R.Row.clouds s.left t.left s.right t.right i (λ m m'. NextOutcome m above place r place' m') ((r ≡ Err Silent) × (place' ≡ place)) _ _
         (L.Row.nexting s.left i above place r place' t.left)
         (R.Row.nexting s.right (i - length (L.Row.clouds s.left)) above place r place' t.right)
         h };

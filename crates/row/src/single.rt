@@ -3,8 +3,8 @@
 ghost use Rattle.std.specs.Prelude.{◌≡◌, [], ◌∷◌, Ok, Err, ◌==◌};
 ghost use Rattle.refusal.specs.declared.Cause.TheVariants.{Silent};
 ghost use Rattle.row.specs.Rows.{If};
-ghost use Rattle.cloud.specs.Outcomes.{Put-outcome, Get-outcome, Drop-outcome, Next-outcome};
-ghost use Rattle.row.specs.RowsLemmas.{called-single};
+ghost use Rattle.cloud.specs.Outcomes.{PutOutcome, GetOutcome, DropOutcome, NextOutcome};
+ghost use Rattle.row.specs.RowsLemmas.{called_single};
 ghost use Rattle.std.proofs.Common.{rules};
 
 use crate::interface::Row;
@@ -30,13 +30,13 @@ impl<C: Cloud> Row for Single<C> {
 
     ghost limited = { Prim.search rules };
 
-    ghost putting = { λ s i name value r t h. called-single (λ x. C.Cloud.meaning x.cloud) s t i (λ m m'. Put-outcome m name value r m') (r ≡ Err Silent) _ (C.Cloud.putting s.cloud name value r t.cloud) h };
+    ghost putting = { λ s i name value r t h. called_single (λ x. C.Cloud.meaning x.cloud) s t i (λ m m'. PutOutcome m name value r m') (r ≡ Err Silent) _ (C.Cloud.putting s.cloud name value r t.cloud) h };
 
-    ghost getting = { λ s i name part r part' t h. called-single (λ x. C.Cloud.meaning x.cloud) s t i (λ m m'. Get-outcome m name part r part' m') ((r ≡ Err Silent) × (part' ≡ part)) _ (C.Cloud.getting s.cloud name part r part' t.cloud) h };
+    ghost getting = { λ s i name part r part' t h. called_single (λ x. C.Cloud.meaning x.cloud) s t i (λ m m'. GetOutcome m name part r part' m') ((r ≡ Err Silent) × (part' ≡ part)) _ (C.Cloud.getting s.cloud name part r part' t.cloud) h };
 
-    ghost dropping = { λ s i name r t h. called-single (λ x. C.Cloud.meaning x.cloud) s t i (λ m m'. Drop-outcome m name r m') (r ≡ Err Silent) _ (C.Cloud.dropping s.cloud name r t.cloud) h };
+    ghost dropping = { λ s i name r t h. called_single (λ x. C.Cloud.meaning x.cloud) s t i (λ m m'. DropOutcome m name r m') (r ≡ Err Silent) _ (C.Cloud.dropping s.cloud name r t.cloud) h };
 
-    ghost nexting = { λ s i above place r place' t h. called-single (λ x. C.Cloud.meaning x.cloud) s t i (λ m m'. Next-outcome m above place r place' m') ((r ≡ Err Silent) × (place' ≡ place)) _ (C.Cloud.nexting s.cloud above place r place' t.cloud) h };
+    ghost nexting = { λ s i above place r place' t h. called_single (λ x. C.Cloud.meaning x.cloud) s t i (λ m m'. NextOutcome m above place r place' m') ((r ≡ Err Silent) × (place' ≡ place)) _ (C.Cloud.nexting s.cloud above place r place' t.cloud) h };
 
     fn past(&self, number: usize) -> Option<usize> {
         number.checked_sub(1)

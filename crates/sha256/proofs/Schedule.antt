@@ -1,11 +1,11 @@
 -- The mix of the message schedule.
 use mathlib.Core.Path.{◌≡◌, ap, ◌∙◌}
 use lib.Dec.{lit<, lit≤}
-use Rattle.digest.proofs.Window.{Reads-sixteen}
+use Rattle.digest.proofs.Window.{ReadsSixteen}
 use Rattle.sha256.specs.Sha256.{mixed}
 
-pub reads-sixteen : Reads-sixteen mixed
-reads-sixteen f g same =
+pub reads_sixteen : ReadsSixteen mixed
+reads_sixteen f g same =
     let a = same 2 (lit< tt) (lit≤ tt) in
     let b = same 7 (lit< tt) (lit≤ tt) in
     let c = same 15 (lit< tt) (lit≤ tt) in

@@ -1,9 +1,9 @@
--- SHA-256, as FIPS 180-4 defines it: its functions on words, its message schedule, its rounds and the digest.
+-- SHA256, as FIPS 180-4 defines it: its functions on words, its message schedule, its rounds and the digest.
 use Rattle.std.specs.Prelude.{ℕ, ◌≡◌, List, [], ◌∷◌, get_or}
 use Rattle.std.specs.Int.Bits.{bit_xor}
 use Rattle.digest.specs.Words.{plus, shr, rotr, ch, maj}
 use Rattle.digest.specs.Rounds.{compression}
-use Rattle.digest.specs.Message.{digest-of}
+use Rattle.digest.specs.Message.{digest_of}
 use Rattle.sha256.specs.Constants.{constants, initial}
 
 abbrev pub Σ0 : ℕ → ℕ
@@ -38,11 +38,11 @@ abbrev pub compressed : List ℕ → List ℕ → List ℕ
 compressed = compression round mixed 64 8
 
 abbrev pub sha256 : List ℕ → List ℕ
-sha256 m = digest-of initial compressed m
+sha256 m = digest_of initial compressed m
 
 -- The standard's example: the digest of the three bytes of "abc".
-abbrev pub Digest-of-abc : Type 0
-Digest-of-abc =
+abbrev pub DigestOfAbc : Type 0
+DigestOfAbc =
     sha256 (97 ∷ 98 ∷ 99 ∷ [])
     ≡ (0xba ∷ 0x78 ∷ 0x16 ∷ 0xbf ∷ 0x8f ∷ 0x01 ∷ 0xcf ∷ 0xea ∷ 0x41 ∷ 0x41 ∷ 0x40 ∷ 0xde ∷ 0x5d ∷ 0xae ∷ 0x22 ∷ 0x23
     ∷ 0xb0 ∷ 0x03 ∷ 0x61 ∷ 0xa3 ∷ 0x96 ∷ 0x17 ∷ 0x7a ∷ 0x9c ∷ 0xb4 ∷ 0x10 ∷ 0xff ∷ 0x61 ∷ 0xf2 ∷ 0x00 ∷ 0x15 ∷ 0xad ∷ [])

@@ -3,7 +3,7 @@ ghost use Rattle.std.specs.Prelude.{◌≡◌};
 ghost use Rattle.sha256.specs.Constants.{initial as first};
 ghost use Rattle.sha256.specs.Sha256.{compressed as compressed-block, sha256};
 ghost use Rattle.std.proofs.Common.{rules};
-ghost use Rattle.sha256.specs.Digests.{length-sha256, sha256-small};
+ghost use Rattle.sha256.specs.Digests.{length_sha256, sha256_small};
 
 use super::constants::INITIAL;
 use super::rounds;
@@ -51,9 +51,9 @@ impl DigestKind for Sha256 {
 
     ghost widths = { Prim.search rules };
 
-    ghost wide = { length-sha256 };
+    ghost wide = { length_sha256 };
 
-    ghost bytes = { sha256-small };
+    ghost bytes = { sha256_small };
 
     fn width_in_bytes() -> usize {
         Self::WIDTH

@@ -1,6 +1,6 @@
 //! SHA-256, as FIPS 180-4 defines it.
 ghost use Rattle.std.specs.Prelude.{◌≡◌};
-ghost use Rattle.sha256.specs.Sha256.{sha256 as digested, Digest-of-abc};
+ghost use Rattle.sha256.specs.Sha256.{sha256 as digested, DigestOfAbc};
 
 use digest::kind::DigestKind;
 
@@ -11,7 +11,7 @@ mod rounds;
 /// The SHA-256 digest of `value`. That the definition is the standard's shows at its example, "abc".
 pub fn sha256(value: &[u8]) -> [u8; 32]
     ensures value { result ≡ digested value.now }
-    ensures example { Digest-of-abc }
+    ensures example { DigestOfAbc }
 {
     let mut out = [0; 32];
     <crate::kind::Sha256 as DigestKind>::digest(value, &mut out);

@@ -3,18 +3,18 @@ use Rattle.std.proofs.Common.{◌≡◌, ℕ, ◌<◌, Bool, true, false, ◌||�
 use Rattle.std.specs.Str.{bytes_eq}
 use Rattle.std.proofs.lemmas.Bool.{and_from}
 use Rattle.std.proofs.lemmas.Slice.Eq.{bytes_eq-Decides}
-use Rattle.entry.specs.Bytes.{digest-fits}
-use Rattle.entry.proofs.Bytes.{all-bytes-fit}
+use Rattle.entry.specs.Bytes.{digest_fits}
+use Rattle.entry.proofs.Bytes.{all_bytes_fit}
 
-pub kind_fits : (bs : List ℕ) (w : ℕ) → (w ≡ 20) ⊎ (w ≡ 32) → length bs ≡ w → ((k : ℕ) → get_or bs k 0 < 256) → digest-fits bs ≡ true
-unfolding digest-fits
+pub kind_fits : (bs : List ℕ) (w : ℕ) → (w ≡ 20) ⊎ (w ≡ 32) → length bs ≡ w → ((k : ℕ) → get_or bs k 0 < 256) → digest_fits bs ≡ true
+unfolding digest_fits
 kind_fits bs w widths wide bytes =
     and_from _ _
     (⊎_elim (λ (h : w ≡ 20). ap (λ n. eqb n 20 || eqb n 32) (wide ∙ h)) (λ (h : w ≡ 32). ap (λ n. eqb n 20 || eqb n 32) (wide ∙ h)) widths)
-    (all-bytes-fit bs (λ k. record { fits = bytes k }))
+    (all_bytes_fit bs (λ k. record { fits = bytes k }))
 
-pub is-same-bytes : (r : Bool) (xs ys : List ℕ) → Decides r (xs ≡ ys) → r ≡ bytes_eq xs ys
-is-same-bytes r xs ys d = same r (bytes_eq xs ys) (λ h. (bytes_eq-Decides xs ys).1 (d.0 h)) (λ h. d.1 ((bytes_eq-Decides xs ys).0 h))
+pub is_same_bytes : (r : Bool) (xs ys : List ℕ) → Decides r (xs ≡ ys) → r ≡ bytes_eq xs ys
+is_same_bytes r xs ys d = same r (bytes_eq xs ys) (λ h. (bytes_eq-Decides xs ys).1 (d.0 h)) (λ h. d.1 ((bytes_eq-Decides xs ys).0 h))
   where
     same : (a b : Bool) → (a ≡ true → b ≡ true) → (b ≡ true → a ≡ true) → a ≡ b
     same true b f g = sym (f refl)

@@ -1,10 +1,10 @@
 -- What the slots and their parts stand for.
 use Rattle.std.specs.Prelude.{ℕ, ◌+◌, ◌*◌, Bool, true, false, ◌&&◌, List, map, Some, None, Ok, Err, Option, Result, nat_le}
 use Rattle.refusal.specs.declared.Refusal.{Refusal}
-use Rattle.naming.specs.Keys.{key-bytes}
-use Rattle.naming.specs.Stamps.{StampValue, stamp-value}
-use Rattle.digest.specs.Value.{digest-bytes}
-use Rattle.entry.specs.Entries.{live-value, stamp-taken}
+use Rattle.naming.specs.Keys.{key_bytes}
+use Rattle.naming.specs.Stamps.{StampValue, stamp_value}
+use Rattle.digest.specs.Value.{digest_bytes}
+use Rattle.entry.specs.Entries.{live_value, stamp_taken}
 use Rattle.protocol.specs.Slots.{SlotValue, SavingValue, FetchingValue, SweepingValue, idle, saving, fetching, sweeping}
 use Rattle.protocol.specs.State.{Setting}
 use Rattle.slots.specs.declared.limits.Limits.{Limits}
@@ -28,11 +28,11 @@ abbrev pub when : Bool → Refusal → Option Refusal
 when true e = Some e
 when false e = None
 
-abbrev pub set-bits : CloudSet → ℕ
-set-bits s = s.bits
+abbrev pub set_bits : CloudSet → ℕ
+set_bits s = s.bits
 
-abbrev pub party-number : Party → ℕ
-party-number p = p.number
+abbrev pub party_number : Party → ℕ
+party_number p = p.number
 
 -- 1 to 3 faults, 3 to 7 clouds, and more than twice as many clouds as faults
 abbrev pub supported : ℕ → ℕ → Bool
@@ -42,31 +42,31 @@ supported faults clouds = nat_le 1 faults && nat_le faults 3 && nat_le 3 clouds 
 abbrev pub digesting : (List ℕ → List ℕ) → Setting
 digesting digested = record { digested = digested; faults = 0; clouds = 0 }
 
-abbrev pub setting-of : (List ℕ → List ℕ) → Limits → Setting
-setting-of digested limits = record { digested = digested; faults = limits.faults; clouds = limits.clouds }
+abbrev pub setting_of : (List ℕ → List ℕ) → Limits → Setting
+setting_of digested limits = record { digested = digested; faults = limits.faults; clouds = limits.clouds }
 
 -- neither number of the stamp is 0, and the value is not too long
-abbrev pub can-begin : StampValue → ℕ → Bool
-can-begin stamp size = stamp-taken stamp && nat_le size 1024
+abbrev pub can_begin : StampValue → ℕ → Bool
+can_begin stamp size = stamp_taken stamp && nat_le size 1024
 
-abbrev pub saving-value : SavingStruct → SavingValue
-saving-value x =
-    record { container = x.container; key = key-bytes x.key; stamp = stamp-value x.stamp; size = x.size; digest = digest-bytes x.digest; stored = set-bits x.stored }
+abbrev pub saving_value : SavingStruct → SavingValue
+saving_value x =
+    record { container = x.container; key = key_bytes x.key; stamp = stamp_value x.stamp; size = x.size; digest = digest_bytes x.digest; stored = set_bits x.stored }
 
-abbrev pub fetching-value : FetchingStruct → FetchingValue
-fetching-value x = record { container = x.container; key = key-bytes x.key; stamp = stamp-value x.stamp; live = live-value x.live }
+abbrev pub fetching_value : FetchingStruct → FetchingValue
+fetching_value x = record { container = x.container; key = key_bytes x.key; stamp = stamp_value x.stamp; live = live_value x.live }
 
-abbrev pub sweeping-value : SweepingStruct → SweepingValue
-sweeping-value x = record { container = x.container; key = key-bytes x.key; stamp = stamp-value x.stamp }
+abbrev pub sweeping_value : SweepingStruct → SweepingValue
+sweeping_value x = record { container = x.container; key = key_bytes x.key; stamp = stamp_value x.stamp }
 
-abbrev pub doing-value : Doing → SlotValue
-doing-value Idle = idle
-doing-value (Saving x) = saving (saving-value x)
-doing-value (Fetching x) = fetching (fetching-value x)
-doing-value (Sweeping x) = sweeping (sweeping-value x)
+abbrev pub doing_value : Doing → SlotValue
+doing_value Idle = idle
+doing_value (Saving x) = saving (saving_value x)
+doing_value (Fetching x) = fetching (fetching_value x)
+doing_value (Sweeping x) = sweeping (sweeping_value x)
 
-abbrev pub slot-value : Slot → SlotValue
-slot-value s = doing-value s.doing
+abbrev pub slot_value : Slot → SlotValue
+slot_value s = doing_value s.doing
 
-abbrev pub slots-value : Slots → List SlotValue
-slots-value s = map slot-value s.at
+abbrev pub slots_value : Slots → List SlotValue
+slots_value s = map slot_value s.at

@@ -1,8 +1,8 @@
 //! Saves that are under way.
 
 ghost use Rattle.std.specs.Prelude.{◌≡◌, ◌≤◌, true};
-ghost use Rattle.digest.specs.Value.{digest-bytes};
-ghost use Rattle.entry.specs.Bytes.{digest-fits};
+ghost use Rattle.digest.specs.Value.{digest_bytes};
+ghost use Rattle.entry.specs.Bytes.{digest_fits};
 
 use crate::clouds::CloudSet;
 use digest::value::Digest;
@@ -23,5 +23,5 @@ pub struct Saving {
     ghost numbered: { 1 ≤ stamp.sequence },
     ghost written: { 1 ≤ stamp.writer },
     ghost sized: { size ≤ 1024 },
-    ghost wide: { digest-fits (digest-bytes digest) ≡ true },
+    ghost wide: { digest_fits (digest_bytes digest) ≡ true },
 }

@@ -2,11 +2,11 @@
 
 ghost use Rattle.std.specs.Prelude.{◌≡◌, not};
 ghost use Rattle.refusal.specs.declared.Refusal.TheVariants.{SlotNotReady};
-ghost use Rattle.protocol.specs.Slots.{is-saving, is-fetching, is-sweeping, of-saving};
-ghost use Rattle.protocol.specs.Grounds.{is-begun-value};
-ghost use Rattle.protocol.specs.Steps.{or-refused, saving-of, fetching-of, sweeping-of};
-ghost use Rattle.slots.specs.Values.{answered, when, slot-value, saving-value, fetching-value, sweeping-value, digesting};
-ghost use Rattle.slots.specs.Asked.{slot-ground};
+ghost use Rattle.protocol.specs.Slots.{is_saving, is_fetching, is_sweeping, of_saving};
+ghost use Rattle.protocol.specs.Grounds.{is_begun_value};
+ghost use Rattle.protocol.specs.Steps.{or_refused, saving_of, fetching_of, sweeping_of};
+ghost use Rattle.slots.specs.Values.{answered, when, slot_value, saving_value, fetching_value, sweeping_value, digesting};
+ghost use Rattle.slots.specs.Asked.{slot_ground};
 
 use crate::limits::Limits;
 use crate::saving::Saving;
@@ -66,7 +66,7 @@ pub(crate) struct Slot {
 impl Slot {
     /// Whether the slot, as it is, allows what is asked.
     pub(crate) fn judge(&self, asked: Asked, limits: &Limits) -> Result<(), Refusal>
-        ensures { result ≡ or-refused (slot-ground limits.now.faults (slot-value self.now) asked) tt }
+        ensures { result ≡ or_refused (slot_ground limits.now.faults (slot_value self.now) asked) tt }
     {
         match (&self.doing, &asked) {
             (
@@ -105,7 +105,7 @@ impl Slot {
 
     /// Whether this is the value of the save that is under way. Its digest is computed only where its size is right.
     pub(crate) fn is_begun<K: DigestKind>(&self, value: &[u8]) -> bool
-        ensures { result ≡ of-saving (slot-value self.now) (is-begun-value (digesting digested) value.now) }
+        ensures { result ≡ of_saving (slot_value self.now) (is_begun_value (digesting digested) value.now) }
     {
         match &self.doing {
             Doing::Saving(saving) => saving.is_of::<K>(value),
@@ -115,7 +115,7 @@ impl Slot {
 
     /// The save that is under way.
     pub(crate) fn saving(&self) -> Result<Saving, Refusal>
-        ensures { answered saving-value result ≡ or-refused (when (not (is-saving (slot-value self.now))) SlotNotReady) (saving-of (slot-value self.now)) }
+        ensures { answered saving_value result ≡ or_refused (when (not (is_saving (slot_value self.now))) SlotNotReady) (saving_of (slot_value self.now)) }
     {
         match self.doing {
             Doing::Saving(saving) => Ok(saving),
@@ -125,7 +125,7 @@ impl Slot {
 
     /// The fetch that is under way.
     pub(crate) fn fetching(&self) -> Result<Fetching, Refusal>
-        ensures { answered fetching-value result ≡ or-refused (when (not (is-fetching (slot-value self.now))) SlotNotReady) (fetching-of (slot-value self.now)) }
+        ensures { answered fetching_value result ≡ or_refused (when (not (is_fetching (slot_value self.now))) SlotNotReady) (fetching_of (slot_value self.now)) }
     {
         match self.doing {
             Doing::Fetching(fetching) => Ok(fetching),
@@ -135,7 +135,7 @@ impl Slot {
 
     /// The sweep that is under way.
     pub(crate) fn sweeping(&self) -> Result<Sweeping, Refusal>
-        ensures { answered sweeping-value result ≡ or-refused (when (not (is-sweeping (slot-value self.now))) SlotNotReady) (sweeping-of (slot-value self.now)) }
+        ensures { answered sweeping_value result ≡ or_refused (when (not (is_sweeping (slot_value self.now))) SlotNotReady) (sweeping_of (slot_value self.now)) }
     {
         match self.doing {
             Doing::Sweeping(sweeping) => Ok(sweeping),

@@ -4,29 +4,29 @@ use Rattle.std.proofs.lemmas.Bool.{cases_lt}
 use Rattle.refusal.specs.declared.Cause.{Cause}
 use Rattle.refusal.specs.declared.Cause.TheVariants.{Silent, BadListing}
 use Rattle.naming.specs.declared.name.Name.{Name}
-use Rattle.naming.specs.Names.{name-bytes, Is-name-of}
-use Rattle.cloud.specs.Meaning.{CloudMeaning, longest-name}
-use Rattle.cloud.specs.Outcomes.{Done, NextLength, Next-outcome}
-use Rattle.bytes.specs.Order.{below}
+use Rattle.naming.specs.Names.{name_bytes, IsNameOf}
+use Rattle.cloud.specs.Meaning.{CloudMeaning, longest_name}
+use Rattle.cloud.specs.Outcomes.{Done, NextLength, NextOutcome}
+use Rattle.byte_strings.specs.Order.{below}
 use Rattle.row.specs.Rows.{Called, numbered}
 use Rattle.protocol.specs.Slots.{SweepingValue}
-use Rattle.protocol.specs.Sweeping.{most-names, sweep-bound, Gives, Going, Swept, pass, drop, no_more, not-above, too_many}
+use Rattle.protocol.specs.Sweeping.{most_names, sweep_bound, Gives, Going, Swept, pass, drop, no_more, not_above, too_many}
 use Rattle.sweeping.specs.Answers.{said, Given, Asked}
 
 -- no cloud of a row answers a length above that of the place, and where there is no cloud there is no length
-pub length-fits : {ms ms' : List CloudMeaning} {i : ℕ} {above place : List ℕ} {r : NextLength} {place' : List ℕ} → Called ms i ms' (λ m m'. Next-outcome m above place r place' m') ((r ≡ Err Silent) × (place' ≡ place))
-    → IfOk r (λ o. IfSome o (λ n. n ≤ longest-name))
-length-fits {ms} {ms'} {i} c =
+pub length_fits : {ms ms' : List CloudMeaning} {i : ℕ} {above place : List ℕ} {r : NextLength} {place' : List ℕ} → Called ms i ms' (λ m m'. NextOutcome m above place r place' m') ((r ≡ Err Silent) × (place' ≡ place))
+    → IfOk r (λ o. IfSome o (λ n. n ≤ longest_name))
+length_fits {ms} {ms'} {i} c =
     ⊎_elim (λ (h : i < length ms). (c.here h).within) (λ (h : length ms ≤ i). rw (c.unknown h).0 tt) (cases_lt i (length ms))
 
 module _ {X : Type 0} (nexts : X → List ℕ → List ℕ → NextLength → List ℕ → X → Type 0) {a b : X} {above place place' : List ℕ} {o : Option ℕ} {len : ℕ} where
-  pub name-read : nexts a above place (Ok o) place' b → IfOk {Y = Cause} (Ok o) (λ o. IfSome o (λ n. n ≤ longest-name)) → o ≡ Some len → (last : List ℕ) → above ≡ last → (bytes : List ℕ) → bytes ≡ take len place'
-      → (r : Option Name) → MatchOption r (longest-name < length bytes) (λ n. (length bytes ≤ longest-name) × (name-bytes n ≡ bytes)) → Asked nexts a last (Ok r) b
-  name-read asked fits is last from bytes e None long =
-      let f : len ≤ longest-name = rw is at fits in
+  pub name_read : nexts a above place (Ok o) place' b → IfOk {Y = Cause} (Ok o) (λ o. IfSome o (λ n. n ≤ longest_name)) → o ≡ Some len → (last : List ℕ) → above ≡ last → (bytes : List ℕ) → bytes ≡ take len place'
+      → (r : Option Name) → MatchOption r (longest_name < length bytes) (λ n. (length bytes ≤ longest_name) × (name_bytes n ≡ bytes)) → Asked nexts a last (Ok r) b
+  name_read asked fits is last from bytes e None long =
+      let f : len ≤ longest_name = rw is at fits in
       let l : length bytes ≤ len = rw (e, length-take) (omega arith) in
       absurd (omega arith)
-  name-read asked fits is last from bytes e (Some n) h =
+  name_read asked fits is last from bytes e (Some n) h =
       record { len = len; exchange = record { place = place; place' = place'; asked = rw (from, is) at asked }; name = h.1 ∙ e }
 
 one_more : (n : ℕ) → suc n ≡ n + 1
@@ -35,11 +35,11 @@ one_more n = omega arith
 -- ---- the answer as a link of the chain
 
 module _ {X : Type 0} (nexts : X → List ℕ → List ℕ → NextLength → List ℕ → X → Type 0) {b c : X} {last : List ℕ} where
-  pub given : {o : Option Name} {n : Name} → Asked nexts b last (Ok o) c → o ≡ Some n → Given nexts b last (name-bytes n) c
+  pub given : {o : Option Name} {n : Name} → Asked nexts b last (Ok o) c → o ≡ Some n → Given nexts b last (name_bytes n) c
   given asked is = subst (λ (o : Option Name). Asked nexts b last (Ok o) c) is asked
 
   module _ (drops : X → List ℕ → Done → X → Type 0) (x : SweepingValue) {seen : ℕ} where
-    pub gives : {n : List ℕ} → Given nexts b last n c → below last n ≡ true → seen < most-names → Gives nexts drops x b last seen n c
+    pub gives : {n : List ℕ} → Given nexts b last n c → below last n ≡ true → seen < most_names → Gives nexts drops x b last seen n c
     gives g up few =
         record { place = g.exchange.place; place' = g.exchange.place'; len = g.len; asked = g.exchange.asked; name = g.name; ascends = up; few = few }
 
@@ -48,20 +48,20 @@ module _ {X : Type 0} (nexts : X → List ℕ → List ℕ → NextLength → Li
       ends asked is = no_more going (subst (λ (o : Option Name). Asked nexts b last (Ok o) c) is asked).asked
 
       pub falls : {n : List ℕ} → Given nexts b last n c → below last n ≡ false → Swept nexts drops x a c (Err BadListing)
-      falls g down = not-above going g.exchange.asked (subst (λ (n : List ℕ). below last n ≡ false) g.name down)
+      falls g down = not_above going g.exchange.asked (subst (λ (n : List ℕ). below last n ≡ false) g.name down)
 
-      pub exceeds : {n : List ℕ} → Given nexts b last n c → most-names ≤ seen → Swept nexts drops x a c (Err BadListing)
+      pub exceeds : {n : List ℕ} → Given nexts b last n c → most_names ≤ seen → Swept nexts drops x a c (Err BadListing)
       exceeds g many = too_many going g.exchange.asked many
 
-      pub passes : {n : List ℕ} → Gives nexts drops x b last seen n c → below n (sweep-bound x) ≡ true → (Is-name-of n x.container x.key → ⊥) → Going nexts drops x a c n (seen + 1) dropped
+      pub passes : {n : List ℕ} → Gives nexts drops x b last seen n c → below n (sweep_bound x) ≡ true → (IsNameOf n x.container x.key → ⊥) → Going nexts drops x a c n (seen + 1) dropped
       passes {n} g up other = subst (λ (k : ℕ). Going nexts drops x a c n k dropped) (one_more seen) (pass going g up other)
 
-      pub goes : {d : X} {n : List ℕ} → Gives nexts drops x b last seen n c → below n (sweep-bound x) ≡ true → Is-name-of n x.container x.key → drops c n (Ok tt) d → Going nexts drops x a d n (seen + 1) (dropped + 1)
+      pub goes : {d : X} {n : List ℕ} → Gives nexts drops x b last seen n c → below n (sweep_bound x) ≡ true → IsNameOf n x.container x.key → drops c n (Ok tt) d → Going nexts drops x a d n (seen + 1) (dropped + 1)
       goes {d} {n} g up named done =
           subst (λ (k : ℕ). Going nexts drops x a d n (seen + 1) k) (one_more dropped) (subst (λ (k : ℕ). Going nexts drops x a d n k (suc dropped)) (one_more seen) (drop going g up named done))
 
 -- ---- the cloud's number at the answer, and off it
 
-pub said-numbered : {T : Type 0} (i : ℕ) (r : Result T Cause) → said (numbered i r) ≡ r
-said-numbered i (Ok t) = refl
-said-numbered i (Err e) = refl
+pub said_numbered : {T : Type 0} (i : ℕ) (r : Result T Cause) → said (numbered i r) ≡ r
+said_numbered i (Ok t) = refl
+said_numbered i (Err e) = refl

@@ -2,14 +2,14 @@
 
 ghost use Rattle.std.specs.Prelude.{◌≡◌, length, take, replicate, Err, nat_lt};
 ghost use Rattle.refusal.specs.declared.Refusal.TheVariants.{BufferTooShort};
-ghost use Rattle.naming.specs.Keys.{key-bytes};
+ghost use Rattle.naming.specs.Keys.{key_bytes};
 ghost use Rattle.naming.specs.Names.{name_of};
-ghost use Rattle.naming.specs.Stamps.{stamp-value};
-ghost use Rattle.entry.specs.Entries.{live-value};
+ghost use Rattle.naming.specs.Stamps.{stamp_value};
+ghost use Rattle.entry.specs.Entries.{live_value};
 ghost use Rattle.row.specs.Rows.{If, numbered};
-ghost use Rattle.protocol.specs.Steps.{is-saved-value};
-ghost use Rattle.slots.specs.Values.{digesting, fetching-value, saving-value};
-ghost use Rattle.trying.specs.Tried.{Judged, Kept, Tried, put-said};
+ghost use Rattle.protocol.specs.Steps.{is_saved_value};
+ghost use Rattle.slots.specs.Values.{digesting, fetching_value, saving_value};
+ghost use Rattle.trying.specs.Tried.{Judged, Kept, Tried, put_said};
 
 use digest::kind::DigestKind;
 use entry::live::Live;
@@ -27,8 +27,8 @@ pub fn put_at<R: Row>(
     saving: &Saving,
     value: &[u8],
 ) -> Result<(), CloudFault>
-    ensures asked { puts row.old cloud (name_of (saving-value saving.now).container (saving-value saving.now).key (saving-value saving.now).stamp) value.now (put-said result) row.new }
-    ensures fault { result ≡ numbered cloud (put-said result) }
+    ensures asked { puts row.old cloud (name_of (saving_value saving.now).container (saving_value saving.now).key (saving_value saving.now).stamp) value.now (put_said result) row.new }
+    ensures fault { result ≡ numbered cloud (put_said result) }
 {
     let name = saving.name();
     at_cloud(cloud, row.put(cloud, name.as_bytes(), value))
@@ -36,7 +36,7 @@ pub fn put_at<R: Row>(
 
 // Whether what a cloud gave has the size and the digest of the value that was saved.
 fn is_saved<K: DigestKind>(live: &Live, length: usize, part: &[u8]) -> bool
-    ensures { result ≡ is-saved-value (digesting digested) (live-value live.now) length part.now }
+    ensures { result ≡ is_saved_value (digesting digested) (live_value live.now) length part.now }
 {
     length == live.size() && live.digest().matches::<K>(part)
 }
@@ -48,7 +48,7 @@ fn ask<R: Row, K: DigestKind>(
     fetching: &Fetching,
     part: &mut [u8],
 ) -> Result<usize, Refusal>
-    ensures judged { Judged (λ said got. gets row.old cloud (name_of fetching.now.container (key-bytes fetching.now.key) (stamp-value fetching.now.stamp)) part.old said got row.new) digested cloud (fetching-value fetching.now) part.new result }
+    ensures judged { Judged (λ said got. gets row.old cloud (name_of fetching.now.container (key_bytes fetching.now.key) (stamp_value fetching.now.stamp)) part.old said got row.new) digested cloud (fetching_value fetching.now) part.new result }
     ensures len { length part.new ≡ length part.old }
 {
     let name = Name::new(fetching.container, &fetching.key, &fetching.stamp);
@@ -74,8 +74,8 @@ fn ask_or_clear<R: Row, K: DigestKind>(
     fetching: &Fetching,
     part: &mut [u8],
 ) -> Result<usize, Refusal>
-    requires { length part.old ≡ (fetching-value fetching.now).live.size }
-    ensures { Kept (λ said got. gets row.old cloud (name_of fetching.now.container (key-bytes fetching.now.key) (stamp-value fetching.now.stamp)) part.old said got row.new) digested cloud (fetching-value fetching.now) part.new result }
+    requires { length part.old ≡ (fetching_value fetching.now).live.size }
+    ensures { Kept (λ said got. gets row.old cloud (name_of fetching.now.container (key_bytes fetching.now.key) (stamp_value fetching.now.stamp)) part.old said got row.new) digested cloud (fetching_value fetching.now) part.new result }
 {
     let answer = ask::<R, K>(row, cloud, fetching, part);
     if answer.is_err() {
@@ -92,7 +92,7 @@ pub fn try_at<R: Row, K: DigestKind>(
     fetching: &Fetching,
     buffer: &mut [u8],
 ) -> Result<usize, Refusal>
-    ensures { If (nat_lt (length buffer.old) (fetching-value fetching.now).live.size) ((result ≡ Err BufferTooShort) × ((buffer.new ≡ buffer.old) × (row.new ≡ row.old))) (Tried (λ said got. gets row.old cloud (name_of fetching.now.container (key-bytes fetching.now.key) (stamp-value fetching.now.stamp)) (take (fetching-value fetching.now).live.size buffer.old) said got row.new) digested cloud (fetching-value fetching.now) buffer.old buffer.new result) }
+    ensures { If (nat_lt (length buffer.old) (fetching_value fetching.now).live.size) ((result ≡ Err BufferTooShort) × ((buffer.new ≡ buffer.old) × (row.new ≡ row.old))) (Tried (λ said got. gets row.old cloud (name_of fetching.now.container (key_bytes fetching.now.key) (stamp_value fetching.now.stamp)) (take (fetching_value fetching.now).live.size buffer.old) said got row.new) digested cloud (fetching_value fetching.now) buffer.old buffer.new result) }
 {
     let size = fetching.live.size();
     if buffer.len() < size {

@@ -1,44 +1,44 @@
 -- The definitions compute each example.
 use Rattle.std.proofs.Common.{◌≡◌, ℕ, Bool, true, false, cond, List, [], ◌∷◌, Some, None, Option, sym, refl, ap, ◌∙◌}
-use Rattle.bytes.specs.Order.{at_most}
+use Rattle.byte_strings.specs.Order.{at_most}
 use Rattle.bytemap.specs.Map.{find, insert}
-use Rattle.naming.specs.Text.{valid-key, printable}
-use Rattle.naming.specs.Stamps.{StampValue, stamp-below}
-use Rattle.naming.specs.Names.{name-front, stamp-bytes}
-use Rattle.naming.proofs.Stamps.{stamp-below-irreflexive}
+use Rattle.naming.specs.Text.{valid_key, printable}
+use Rattle.naming.specs.Stamps.{StampValue, stamp_below}
+use Rattle.naming.specs.Names.{name_front, stamp_bytes}
+use Rattle.naming.proofs.Stamps.{stamp_below_irreflexive}
 use Rattle.entry.specs.Entries.{EntryValue}
 use Rattle.directory.specs.declared.interface.CommitAnswer.{CommitAnswer}
 use Rattle.directory.specs.declared.interface.CommitAnswer.TheVariants.{Older}
 use Rattle.directory.specs.Meaning.{DirectoryMeaning, contents}
-use Rattle.directory.specs.Calls.{entry_of, stamp-of, commit-answer, commit-after, place-answer}
+use Rattle.directory.specs.Calls.{entry_of, stamp_of, commit_answer, commit_after, place_answer}
 use Rattle.journal_record.specs.Layout.{head_of, encode}
 use Rattle.journal_record.specs.Parse.{parse}
-use Rattle.directory_journal.specs.Replay.{replay-from}
-use Rattle.protocol.specs.Listing.{live-keys, listing}
-use Rattle.worked_examples.specs.Examples.{Worked-examples}
+use Rattle.directory_journal.specs.Replay.{replay_from}
+use Rattle.protocol.specs.Listing.{live_keys, listing}
+use Rattle.worked_examples.specs.Examples.{WorkedExamples}
 
-equal-is-older : (m : DirectoryMeaning) (container : ℕ) (key : List ℕ) (present new : EntryValue)
-    → entry_of m container key ≡ Some present → new.stamp ≡ present.stamp → commit-answer m container key new ≡ Older
-unfolding commit-answer
-equal-is-older m c k present new is same =
-    let low : stamp-below (stamp-of (entry_of m c k)) new.stamp ≡ false =
-    ap (λ (o : Option EntryValue). stamp-below (stamp-of o) new.stamp) is ∙ ap (λ (t : StampValue). stamp-below present.stamp t) same ∙ stamp-below-irreflexive present.stamp in
-    ap (λ (b : Bool). cond b (place-answer (entry_of m c k) m.free) Older) low
+equal_is_older : (m : DirectoryMeaning) (container : ℕ) (key : List ℕ) (present new : EntryValue)
+    → entry_of m container key ≡ Some present → new.stamp ≡ present.stamp → commit_answer m container key new ≡ Older
+unfolding commit_answer
+equal_is_older m c k present new is same =
+    let low : stamp_below (stamp_of (entry_of m c k)) new.stamp ≡ false =
+    ap (λ (o : Option EntryValue). stamp_below (stamp_of o) new.stamp) is ∙ ap (λ (t : StampValue). stamp_below present.stamp t) same ∙ stamp_below_irreflexive present.stamp in
+    ap (λ (b : Bool). cond b (place_answer (entry_of m c k) m.free) Older) low
 
-pub worked-examples : Worked-examples
-unfolding name-front stamp-bytes stamp-below head_of encode replay-from commit-answer commit-after parse valid-key printable at_most insert find contents live-keys listing
-worked-examples = record {
-  name-of-A = refl;
-  sequence-first = refl;
-  equal-stamp-is-older = equal-is-older;
-  four-are-too-few = refl;
-  refused-with-1 = refl;
-  five-open = refl;
-  deleted-in-0 = refl;
-  deleted-in-7 = refl;
-  sequence-0 = λ places. refl;
-  container-0-written-out = λ places. refl;
-  refused-with-3 = refl;
-  at-0 = refl;
+pub worked_examples : WorkedExamples
+unfolding name_front stamp_bytes stamp_below head_of encode replay_from commit_answer commit_after parse valid_key printable at_most insert find contents live_keys listing
+worked_examples = record {
+  name_of_A = refl;
+  sequence_first = refl;
+  equal_stamp_is_older = equal_is_older;
+  four_are_too_few = refl;
+  refused_with_1 = refl;
+  five_open = refl;
+  deleted_in_0 = refl;
+  deleted_in_7 = refl;
+  sequence_0 = λ places. refl;
+  container_0_written_out = λ places. refl;
+  refused_with_3 = refl;
+  at_0 = refl;
   listed = refl;
 }

@@ -1,8 +1,8 @@
 //! Worked examples of the definitions that contracts cite, as one table.
 
-ghost use Rattle.worked_examples.specs.Examples.{Worked-examples};
+ghost use Rattle.worked_examples.specs.Examples.{WorkedExamples};
 
 /// Every example of the table holds.
 pub fn worked_examples_hold()
-    ensures { Worked-examples }
+    ensures { WorkedExamples }
 {}

@@ -1,12 +1,12 @@
-use Rattle.bytemap.proofs.Find.{same_map, find-insert, find-remove, ascending-insert, ascending-remove}
+use Rattle.bytemap.proofs.Find.{same_map, find_insert, find_remove, ascending_insert, ascending_remove}
 use Rattle.bytemap.proofs.a_map_is_what_it_finds.Goals as goal
 
 pub returns : goal.returns
 returns c =
     record {
       same = same_map;
-      inserted = find-insert;
-      removed = find-remove;
-      insert-ascends = ascending-insert;
-      remove-ascends = ascending-remove;
+      inserted = find_insert;
+      removed = find_remove;
+      insert-ascends = ascending_insert;
+      remove-ascends = ascending_remove;
     }

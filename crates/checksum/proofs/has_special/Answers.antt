@@ -1,14 +1,14 @@
 use Rattle.std.proofs.Common.{◌≡◌, ℕ, ◌+◌, ◌<◌, Bool, true, false, ◌||◌, List, length, get_or, drop, sym, ◌∙◌, subst}
 use Rattle.std.proofs.lemmas.List.{at_drop_more, at_drop_all}
-use Rattle.checksum.specs.Line.{has-special, is_special}
+use Rattle.checksum.specs.Line.{has_special, is_special}
 use Rattle.checksum.proofs.has_special.Goals as goal
 
 -- the bytes from i on, by the one at i and the rest
 at_byte : (name : List ℕ) (i : ℕ) (b : Bool) → i < length name → b ≡ is_special (get_or name i 0)
-    → has-special (drop i name) ≡ (b || has-special (drop (i + 1) name))
+    → has_special (drop i name) ≡ (b || has_special (drop (i + 1) name))
 at_byte name i b h e =
-    let P : Bool → Type 0 = λ t. has-special (drop i name) ≡ (t || has-special (drop (i + 1) name)) in
-    subst P (sym e) (at_drop_more has-special name i 0 h)
+    let P : Bool → Type 0 = λ t. has_special (drop i name) ≡ (t || has_special (drop (i + 1) name)) in
+    subst P (sym e) (at_drop_more has_special name i 0 h)
 
 pub returns-then-is-special : goal.returns-then-is-special
 returns-then-is-special c =
@@ -19,4 +19,4 @@ loop-b-preserved c =
     sym (at_byte c.args.name.now c.loop-b.b-index false c.loop-b-test.true c.if-is-special.ensures) ∙ c.loop-b.invariant
 
 pub returns : goal.returns
-returns c = sym (at_drop_all has-special c.args.name.now c.loop-b.b-index c.loop-b-test.false) ∙ c.loop-b.invariant
+returns c = sym (at_drop_all has_special c.args.name.now c.loop-b.b-index c.loop-b-test.false) ∙ c.loop-b.invariant

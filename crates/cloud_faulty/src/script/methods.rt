@@ -2,8 +2,8 @@
 
 ghost use Rattle.std.specs.Prelude.{◌≡◌, length};
 ghost use Rattle.std.specs.Option.{option_map};
-ghost use Rattle.cloud_faulty.specs.Faults.{script-of};
-ghost use Rattle.cloud_faulty.specs.Scripts.{faults-left, next-fault, Used-up};
+ghost use Rattle.cloud_faulty.specs.Faults.{script_of};
+ghost use Rattle.cloud_faulty.specs.Scripts.{faults_left, next_fault, UsedUp};
 
 use crate::fault::Fault;
 use crate::script::{MOST_CODES, Script};
@@ -11,7 +11,7 @@ use crate::script::{MOST_CODES, Script};
 impl Script {
     // The script of these codes; none where they are more than 32 or one is no fault's.
     pub(crate) fn read(codes: &[u8]) -> Option<Script>
-        ensures { option_map faults-left result ≡ script-of codes.now }
+        ensures { option_map faults_left result ≡ script_of codes.now }
     {
         if codes.len() > MOST_CODES {
             return None;
@@ -32,8 +32,8 @@ impl Script {
 
     // Uses up the next fault. After the last each call passes.
     pub(crate) fn take(&mut self) -> Fault
-        ensures fault { result ≡ next-fault self.old }
-        ensures after { Used-up self.old self.new }
+        ensures fault { result ≡ next_fault self.old }
+        ensures after { UsedUp self.old self.new }
     {
         if self.used == self.len {
             return Fault::Pass;
@@ -45,7 +45,7 @@ impl Script {
 
     // How many faults are left.
     pub(crate) fn left(&self) -> usize
-        ensures { result ≡ length (faults-left self.now) }
+        ensures { result ≡ length (faults_left self.now) }
     {
         self.len - self.used
     }

@@ -1,9 +1,9 @@
 //! The calls at a fixed cloud.
 
-ghost use Rattle.cloud.specs.Outcomes.{Put-outcome, Get-outcome, Drop-outcome, Next-outcome};
-ghost use Rattle.cloud_fixed.specs.Making.{fixed-meaning};
+ghost use Rattle.cloud.specs.Outcomes.{PutOutcome, GetOutcome, DropOutcome, NextOutcome};
+ghost use Rattle.cloud_fixed.specs.Making.{fixed_meaning};
 ghost use Rattle.std.proofs.Common.{arith, rules};
-ghost use Rattle.cloud_fixed.specs.Searched.{within-limits};
+ghost use Rattle.cloud_fixed.specs.Searched.{within_limits};
 
 use crate::fixed::FixedCloud;
 use crate::front::write_front;
@@ -16,17 +16,17 @@ use refusal::Cause;
 
 /// A fixed cloud is always sound.
 impl Cloud for FixedCloud {
-    ghost meaning = { fixed-meaning };
+    ghost meaning = { fixed_meaning };
 
-    ghost puts = { λ s name value r t. Put-outcome (fixed-meaning s) name value r (fixed-meaning t) };
+    ghost puts = { λ s name value r t. PutOutcome (fixed_meaning s) name value r (fixed_meaning t) };
 
-    ghost gets = { λ s name part r part' t. Get-outcome (fixed-meaning s) name part r part' (fixed-meaning t) };
+    ghost gets = { λ s name part r part' t. GetOutcome (fixed_meaning s) name part r part' (fixed_meaning t) };
 
-    ghost drops = { λ s name r t. Drop-outcome (fixed-meaning s) name r (fixed-meaning t) };
+    ghost drops = { λ s name r t. DropOutcome (fixed_meaning s) name r (fixed_meaning t) };
 
-    ghost nexts = { λ s above place r place' t. Next-outcome (fixed-meaning s) above place r place' (fixed-meaning t) };
+    ghost nexts = { λ s above place r place' t. NextOutcome (fixed_meaning s) above place r place' (fixed_meaning t) };
 
-    ghost limited = { λ s. within-limits s.places.items s.limit s.distinct (omega (arith, s.used, s.places.ok.0)) s.few };
+    ghost limited = { λ s. within_limits s.places.items s.limit s.distinct (omega (arith, s.used, s.places.ok.0)) s.few };
 
     ghost putting = { first_of (Prim.search rules, Prim.grind (arith, Self.row.coded.inj)) };
 

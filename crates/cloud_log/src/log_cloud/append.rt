@@ -2,11 +2,11 @@
 
 ghost use Rattle.std.specs.Prelude.{◌≡◌, ◌+◌, ◌<◌, ◌≤◌, ◌++◌, length, IfNone, Some, vec_len};
 ghost use Rattle.bytemap.specs.Map.{insert, remove};
-ghost use Rattle.cloud.specs.Meaning.{longest-name, longest-value};
-ghost use Rattle.log_record.specs.Records.{stored, dropped, encoded, longest-record};
+ghost use Rattle.cloud.specs.Meaning.{longest_name, longest_value};
+ghost use Rattle.log_record.specs.Records.{stored, dropped, encoded, longest_record};
 ghost use Rattle.log_record.specs.Replay.{replayed};
 ghost use Rattle.cloud_log.specs.Index.{names, Placed};
-ghost use Rattle.cloud_log.specs.Meaning.{log-of, Roomy};
+ghost use Rattle.cloud_log.specs.Meaning.{log_of, Roomy};
 
 use crate::closing::close_up;
 use crate::entry::Entry;
@@ -18,7 +18,7 @@ use log_record::write::{write_dropped, write_stored};
 impl LogCloud {
     // Closes up where fewer than so many bytes are free.
     pub(crate) fn make_room(&mut self, size: usize)
-        requires { size ≤ longest-record }
+        requires { size ≤ longest_record }
         ensures { Roomy self.old self.new size }
     {
         if self.bytes.len() - self.used < size {
@@ -30,11 +30,11 @@ impl LogCloud {
     // its entry becomes the last.
     pub(crate) fn append_stored(&mut self, place: Option<usize>, name: &[u8], value: &[u8])
         requires placed { Placed (names self.old.index.items) name.now place }
-        requires short { (length name.now ≤ longest-name) × (length value.now ≤ longest-value) }
+        requires short { (length name.now ≤ longest_name) × (length value.now ≤ longest_value) }
         requires free { IfNone place (vec_len self.old.index < self.old.places) }
         requires room { self.old.used + (length name.now + length value.now + 3) ≤ vec_len self.old.bytes }
-        ensures log { log-of self.new ≡ log-of self.old ++ encoded (stored name.now value.now) }
-        ensures held { replayed (log-of self.new) ≡ insert (replayed (log-of self.old)) name.now value.now }
+        ensures log { log_of self.new ≡ log_of self.old ++ encoded (stored name.now value.now) }
+        ensures held { replayed (log_of self.new) ≡ insert (replayed (log_of self.old)) name.now value.now }
         ensures places { self.new.places ≡ self.old.places }
         ensures memory { vec_len self.new.bytes ≡ vec_len self.old.bytes }
     {
@@ -53,8 +53,8 @@ impl LogCloud {
     pub(crate) fn append_dropped(&mut self, place: usize, name: &[u8])
         requires placed { Placed (names self.old.index.items) name.now (Some place) }
         requires room { self.old.used + (length name.now + 3) ≤ vec_len self.old.bytes }
-        ensures log { log-of self.new ≡ log-of self.old ++ encoded (dropped name.now) }
-        ensures held { replayed (log-of self.new) ≡ remove (replayed (log-of self.old)) name.now }
+        ensures log { log_of self.new ≡ log_of self.old ++ encoded (dropped name.now) }
+        ensures held { replayed (log_of self.new) ≡ remove (replayed (log_of self.old)) name.now }
         ensures places { self.new.places ≡ self.old.places }
         ensures memory { vec_len self.new.bytes ≡ vec_len self.old.bytes }
     {

@@ -1,33 +1,33 @@
 //! The calls at a log cloud.
 
-ghost use Rattle.cloud.specs.Outcomes.{Put-outcome, Get-outcome, Drop-outcome, Next-outcome};
+ghost use Rattle.cloud.specs.Outcomes.{PutOutcome, GetOutcome, DropOutcome, NextOutcome};
 ghost use Rattle.log_record.specs.Records.{stored, dropped};
-ghost use Rattle.cloud_log.specs.Meaning.{log-meaning, Logged};
-ghost use Rattle.cloud_log.specs.Calls.{within-limits};
+ghost use Rattle.cloud_log.specs.Meaning.{log_meaning, Logged};
+ghost use Rattle.cloud_log.specs.Calls.{within_limits};
 ghost use Rattle.std.proofs.Common.{rules, arith};
 
 use crate::entry::Above;
 use crate::front::write_front;
 use crate::index::position;
 use crate::log_cloud::LogCloud;
-use bytes::successor::successor;
+use byte_strings::successor::successor;
 use cloud::interface::Cloud;
 use log_record::limits::{LENGTHS, LONGEST_NAME, LONGEST_VALUE};
 use refusal::Cause;
 
 /// A log cloud is always sound.
 impl Cloud for LogCloud {
-    ghost meaning = { log-meaning };
+    ghost meaning = { log_meaning };
 
-    ghost puts = { λ s name value r t. Put-outcome (log-meaning s) name value r (log-meaning t) };
+    ghost puts = { λ s name value r t. PutOutcome (log_meaning s) name value r (log_meaning t) };
 
-    ghost gets = { λ s name part r part' t. Get-outcome (log-meaning s) name part r part' (log-meaning t) };
+    ghost gets = { λ s name part r part' t. GetOutcome (log_meaning s) name part r part' (log_meaning t) };
 
-    ghost drops = { λ s name r t. Drop-outcome (log-meaning s) name r (log-meaning t) };
+    ghost drops = { λ s name r t. DropOutcome (log_meaning s) name r (log_meaning t) };
 
-    ghost nexts = { λ s above place r place' t. Next-outcome (log-meaning s) above place r place' (log-meaning t) };
+    ghost nexts = { λ s above place r place' t. NextOutcome (log_meaning s) above place r place' (log_meaning t) };
 
-    ghost limited = { λ s. within-limits s };
+    ghost limited = { λ s. within_limits s };
 
     ghost putting = { first_of (Prim.search rules, Prim.grind (arith, Self.row.coded.inj)) };
 
@@ -38,7 +38,7 @@ impl Cloud for LogCloud {
     ghost nexting = { first_of (Prim.search rules, Prim.grind (arith, Self.row.coded.inj)) };
 
     fn put(&mut self, name: &[u8], value: &[u8]) -> Result<(), Cause>
-        ensures outcome { Put-outcome (log-meaning self.old) name.now value.now result (log-meaning self.new) }
+        ensures outcome { PutOutcome (log_meaning self.old) name.now value.now result (log_meaning self.new) }
         ensures logged { Logged self.old (stored name.now value.now) result self.new }
     {
         if name.len() > LONGEST_NAME || value.len() > LONGEST_VALUE {
@@ -66,7 +66,7 @@ impl Cloud for LogCloud {
     }
 
     fn drop(&mut self, name: &[u8]) -> Result<(), Cause>
-        ensures outcome { Drop-outcome (log-meaning self.old) name.now result (log-meaning self.new) }
+        ensures outcome { DropOutcome (log_meaning self.old) name.now result (log_meaning self.new) }
         ensures logged { Logged self.old (dropped name.now) result self.new }
     {
         let Some(place) = position(self.index.as_slice(), name) else {

@@ -4,7 +4,7 @@ ghost use Rattle.std.specs.Prelude.{◌≡◌, ◌<◌, ◌||◌, [], map, is_so
 ghost use Rattle.log_record.specs.Records.{Whole};
 ghost use Rattle.log_record.specs.Replay.{replayed};
 ghost use Rattle.cloud_log.specs.Index.{value_in};
-ghost use Rattle.cloud_log.specs.Meaning.{log-of, log-meaning};
+ghost use Rattle.cloud_log.specs.Meaning.{log_of, log_meaning};
 
 use crate::log_cloud::LogCloud;
 
@@ -12,8 +12,8 @@ impl LogCloud {
     /// The bytes of the log: whole records, one after another, that read back to what the cloud holds.
     pub fn bytes(&self) -> &[u8]
         ensures whole { Whole result.now }
-        ensures held { replayed result.now ≡ (log-meaning self.now).held }
-        ensures value { result.now ≡ log-of self.now }
+        ensures held { replayed result.now ≡ (log_meaning self.now).held }
+        ensures value { result.now ≡ log_of self.now }
     {
         &self.bytes.as_slice()[0..self.used]
     }

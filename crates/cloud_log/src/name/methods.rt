@@ -1,7 +1,7 @@
 //! Names made and read.
 
 ghost use Rattle.std.specs.Prelude.{◌≡◌, ◌≤◌, length};
-ghost use Rattle.cloud.specs.Meaning.{longest-name};
+ghost use Rattle.cloud.specs.Meaning.{longest_name};
 ghost use Rattle.cloud_log.specs.Index.{bytes_of};
 
 use crate::front::write_front;
@@ -9,7 +9,7 @@ use crate::name::Name;
 
 impl Name {
     pub(crate) fn new(name: &[u8]) -> Name
-        requires { length name.now ≤ longest-name }
+        requires { length name.now ≤ longest_name }
         ensures { bytes_of result ≡ name.now }
     {
         let mut bytes = [0; 39];

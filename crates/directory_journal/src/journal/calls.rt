@@ -1,9 +1,9 @@
 //! The calls at a journal.
 
-ghost use Rattle.directory_journal.specs.Meaning.{journal-meaning};
+ghost use Rattle.directory_journal.specs.Meaning.{journal_meaning};
 ghost use Rattle.std.proofs.Common.{arith};
-ghost use Rattle.directory_table.specs.Making.{table-entries};
-ghost use Rattle.directory_table.specs.Limits.{within-limits};
+ghost use Rattle.directory_table.specs.Making.{table_entries};
+ghost use Rattle.directory_table.specs.Limits.{within_limits};
 
 use crate::journal::Journal;
 use crate::storing::store;
@@ -13,11 +13,11 @@ use journal_record::record::Record;
 use naming::key::Key;
 
 impl Directory for Journal {
-    ghost meaning = { journal-meaning };
+    ghost meaning = { journal_meaning };
 
     ghost limited = { λ s.
         let t = s.index in
-        within-limits (table-entries t) t.places t.distinct (omega (arith, t.used, t.entries.ok.0)) t.few };
+        within_limits (table_entries t) t.places t.distinct (omega (arith, t.used, t.entries.ok.0)) t.few };
 
     fn look(&mut self, container: u8, key: &Key) -> Option<Entry> {
         self.index.look(container, key)

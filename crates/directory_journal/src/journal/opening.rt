@@ -1,14 +1,14 @@
 //! Opening a journal, lending its bytes, and closing it.
 
 ghost use Rattle.std.specs.Prelude.{◌≡◌, ◌+◌, ◌*◌, ◌≤◌, length, take, Ok, vec_len, vec_capacity};
-ghost use Rattle.directory_table.specs.Making.{table-meaning};
-ghost use Rattle.journal_record.specs.Layout.{longest-record};
+ghost use Rattle.directory_table.specs.Making.{table_meaning};
+ghost use Rattle.journal_record.specs.Layout.{longest_record};
 ghost use Rattle.directory_journal.specs.Capacity.{capacity};
-ghost use Rattle.directory_journal.specs.Replay.{empty-directory, replay};
-ghost use Rattle.directory_journal.specs.Meaning.{journal-bytes, journal-meaning, journal-places};
-ghost use Rattle.directory_journal.specs.Laws.{Journal-laws};
-ghost use Rattle.directory_journal.specs.Opening.{Opens, Opens-with, opened};
-ghost use Rattle.directory_journal.specs.Survival.{Commits-survive};
+ghost use Rattle.directory_journal.specs.Replay.{empty_directory, replay};
+ghost use Rattle.directory_journal.specs.Meaning.{journal_bytes, journal_meaning, journal_places};
+ghost use Rattle.directory_journal.specs.Laws.{JournalLaws};
+ghost use Rattle.directory_journal.specs.Opening.{Opens, OpensWith, opened};
+ghost use Rattle.directory_journal.specs.Survival.{CommitsSurvive};
 
 use crate::journal::Journal;
 use crate::memory::JournalMemory;
@@ -24,7 +24,7 @@ impl Journal {
     /// need.
     pub fn open(memory: JournalMemory, places: usize) -> Result<Journal, Rejected<JournalMemory>>
         ensures value { Opens memory places result }
-        ensures laws { Journal-laws }
+        ensures laws { JournalLaws }
     {
         let JournalMemory { bytes, index } = memory;
         // A record for each place, and one more.
@@ -48,25 +48,25 @@ impl Journal {
 
     /// All bytes of the journal: opened again, they mean the same.
     pub fn bytes(&self) -> &[u8]
-        ensures value { result.now ≡ journal-bytes self.now }
-        ensures survive { Commits-survive }
+        ensures value { result.now ≡ journal_bytes self.now }
+        ensures survive { CommitsSurvive }
     {
         self.bytes.as_slice()
     }
 
     /// The records alone: the bytes before the end mark, or all where there is none.
     pub fn records(&self) -> &[u8]
-        ensures front { result.now ≡ take (length result.now) (journal-bytes self.now) }
-        ensures end { replay (journal-places self.now) (journal-bytes self.now) ≡ Ok (journal-meaning self.now, length result.now) }
+        ensures front { result.now ≡ take (length result.now) (journal_bytes self.now) }
+        ensures end { replay (journal_places self.now) (journal_bytes self.now) ≡ Ok (journal_meaning self.now, length result.now) }
     {
         &self.bytes.as_slice()[..self.used]
     }
 
     /// Gives up the journal for its memory: opened again, that means the same.
     pub fn close(self) -> JournalMemory
-        ensures bytes { result.bytes.items ≡ journal-bytes self }
-        ensures again { opened (journal-places self) (vec_capacity result.index) result.bytes.items ≡ Ok (journal-meaning self) }
-        ensures survive { Commits-survive }
+        ensures bytes { result.bytes.items ≡ journal_bytes self }
+        ensures again { opened (journal_places self) (vec_capacity result.index) result.bytes.items ≡ Ok (journal_meaning self) }
+        ensures survive { CommitsSurvive }
     {
         JournalMemory {
             bytes: self.bytes,
@@ -77,9 +77,9 @@ impl Journal {
 
 // The journal in the bytes, with an empty index of as many places.
 fn open_with(bytes: Vec<u8>, index: Table) -> Result<Journal, Rejected<JournalMemory>>
-    requires empty { table-meaning index ≡ empty-directory (capacity (table-meaning index)) }
-    requires room { (capacity (table-meaning index) + 1) * longest-record ≤ vec_len bytes }
-    ensures { Opens-with bytes (capacity (table-meaning index)) result }
+    requires empty { table_meaning index ≡ empty_directory (capacity (table_meaning index)) }
+    requires room { (capacity (table_meaning index) + 1) * longest_record ≤ vec_len bytes }
+    ensures { OpensWith bytes (capacity (table_meaning index)) result }
 {
     let mut index = index;
     match replay(bytes.as_slice(), &mut index) {

@@ -1,8 +1,8 @@
 //! The calls at a table.
 
-ghost use Rattle.directory_table.specs.Making.{table-meaning};
+ghost use Rattle.directory_table.specs.Making.{table_meaning};
 ghost use Rattle.std.proofs.Common.{arith};
-ghost use Rattle.directory_table.specs.Limits.{within-limits};
+ghost use Rattle.directory_table.specs.Limits.{within_limits};
 
 use crate::answer::commit_answer;
 use crate::keyed_entry::KeyedEntry;
@@ -13,9 +13,9 @@ use entry::entry::Entry;
 use naming::key::Key;
 
 impl Directory for Table {
-    ghost meaning = { table-meaning };
+    ghost meaning = { table_meaning };
 
-    ghost limited = { λ s. within-limits s.entries.items s.places s.distinct (omega (arith, s.used, s.entries.ok.0)) s.few };
+    ghost limited = { λ s. within_limits s.entries.items s.places s.distinct (omega (arith, s.used, s.entries.ok.0)) s.few };
 
     fn look(&mut self, container: u8, key: &Key) -> Option<Entry> {
         let i = index_of(&self.entries, container, key)?;

@@ -1,7 +1,7 @@
 //! Making a table of memory that is handed in, and handing that back.
 
 ghost use Rattle.std.specs.Prelude.{◌≡◌};
-ghost use Rattle.directory_table.specs.Making.{Made, table-memory};
+ghost use Rattle.directory_table.specs.Making.{Made, table_memory};
 
 use crate::keyed_entry::KeyedEntry;
 use crate::table::Table;
@@ -31,7 +31,7 @@ impl Table {
 
     /// Gives up the table for its memory.
     pub fn into_memory(self) -> Vec<KeyedEntry>
-        ensures { result ≡ table-memory self }
+        ensures { result ≡ table_memory self }
     {
         self.entries
     }

@@ -2,8 +2,8 @@
 
 ghost use Rattle.std.specs.Prelude.{◌≡◌, true, false, Some, None, MatchOption};
 ghost use Rattle.std.specs.Option.{option_map};
-ghost use Rattle.naming.specs.Stamps.{stamp-value};
-ghost use Rattle.entry.specs.Entries.{EntryValue, Valid-entry, entry_value, live-value, stamp-taken};
+ghost use Rattle.naming.specs.Stamps.{stamp_value};
+ghost use Rattle.entry.specs.Entries.{EntryValue, ValidEntry, entry_value, live_value, stamp_taken};
 
 use super::Entry;
 use crate::live::Live;
@@ -11,7 +11,7 @@ use naming::stamp::Stamp;
 
 // The entry, where neither of the stamp's numbers is 0.
 fn stamped(stamp: Stamp, live: Option<Live>) -> Option<Entry>
-    ensures { MatchOption result (stamp-taken (stamp-value stamp) ≡ false) (λ e. (stamp-taken (stamp-value stamp) ≡ true) × (entry_value e ≡ record { stamp = stamp-value stamp; live = option_map live-value live })) }
+    ensures { MatchOption result (stamp_taken (stamp_value stamp) ≡ false) (λ e. (stamp_taken (stamp_value stamp) ≡ true) × (entry_value e ≡ record { stamp = stamp_value stamp; live = option_map live_value live })) }
 {
     if stamp.sequence() < 1 || stamp.writer() < 1 {
         return None;
@@ -22,29 +22,29 @@ fn stamped(stamp: Stamp, live: Option<Live>) -> Option<Entry>
 impl Entry {
     /// The entry of a value saved with this stamp, where neither of the stamp's numbers is 0.
     pub fn saved(stamp: Stamp, live: Live) -> Option<Entry>
-        ensures { MatchOption result (stamp-taken (stamp-value stamp) ≡ false) (λ e. (stamp-taken (stamp-value stamp) ≡ true) × (entry_value e ≡ record { stamp = stamp-value stamp; live = Some (live-value live) })) }
+        ensures { MatchOption result (stamp_taken (stamp_value stamp) ≡ false) (λ e. (stamp_taken (stamp_value stamp) ≡ true) × (entry_value e ≡ record { stamp = stamp_value stamp; live = Some (live_value live) })) }
     {
         stamped(stamp, Some(live))
     }
 
     /// The entry of a key deleted with this stamp, where neither of the stamp's numbers is 0.
     pub fn deleted(stamp: Stamp) -> Option<Entry>
-        ensures { MatchOption result (stamp-taken (stamp-value stamp) ≡ false) (λ e. (stamp-taken (stamp-value stamp) ≡ true) × (entry_value e ≡ record { stamp = stamp-value stamp; live = None })) }
+        ensures { MatchOption result (stamp_taken (stamp_value stamp) ≡ false) (λ e. (stamp_taken (stamp_value stamp) ≡ true) × (entry_value e ≡ record { stamp = stamp_value stamp; live = None })) }
     {
         stamped(stamp, None)
     }
 
     /// The stamp of the write.
     pub fn stamp(&self) -> Stamp
-        ensures { stamp-value result ≡ (entry_value self.now).stamp }
+        ensures { stamp_value result ≡ (entry_value self.now).stamp }
     {
         self.stamp
     }
 
     /// The value, or none where the key was deleted.
     pub fn live(&self) -> Option<Live>
-        ensures value { option_map live-value result ≡ (entry_value self.now).live }
-        ensures valid { Valid-entry (entry_value self.now) }
+        ensures value { option_map live_value result ≡ (entry_value self.now).live }
+        ensures valid { ValidEntry (entry_value self.now) }
     {
         self.live
     }

@@ -1,8 +1,8 @@
 //! Making the description of a value, and reading it.
 
 ghost use Rattle.std.specs.Prelude.{◌≡◌, true, false, MatchOption};
-ghost use Rattle.digest.specs.Value.{digest-bytes};
-ghost use Rattle.entry.specs.Entries.{LiveValue, lists, live-value, valid-live};
+ghost use Rattle.digest.specs.Value.{digest_bytes};
+ghost use Rattle.entry.specs.Entries.{LiveValue, lists, live_value, valid_live};
 
 use super::Live;
 use digest::value::Digest;
@@ -15,7 +15,7 @@ const LONGEST_VALUE: usize = 1024;
 impl Live {
     /// A value of this size and digest on these clouds: a list of 1 to 127, at most 1,024 bytes, 20 or 32 of digest.
     pub fn new(clouds: u8, size: usize, digest: &[u8]) -> Option<Live>
-        ensures { MatchOption result (valid-live (record { clouds = clouds; size = size; digest = digest.now }) ≡ false) (λ l. (live-value l ≡ record { clouds = clouds; size = size; digest = digest.now }) × (valid-live (live-value l) ≡ true)) }
+        ensures { MatchOption result (valid_live (record { clouds = clouds; size = size; digest = digest.now }) ≡ false) (λ l. (live_value l ≡ record { clouds = clouds; size = size; digest = digest.now }) × (valid_live (live_value l) ≡ true)) }
     {
         if clouds < 1 || clouds > ALL_CLOUDS || size > LONGEST_VALUE {
             return None;
@@ -32,28 +32,28 @@ impl Live {
 
     /// The list of clouds: one bit for each, cloud 0 lowest.
     pub fn clouds(&self) -> u8
-        ensures { result ≡ (live-value self.now).clouds }
+        ensures { result ≡ (live_value self.now).clouds }
     {
         self.clouds
     }
 
     /// Whether the cloud of this number is in the list.
     pub fn is_on(&self, cloud: usize) -> bool
-        ensures { result ≡ lists (live-value self.now).clouds cloud }
+        ensures { result ≡ lists (live_value self.now).clouds cloud }
     {
         cloud < 8 && (self.clouds >> cloud) & 1 == 1
     }
 
     /// How many bytes the value has.
     pub fn size(&self) -> usize
-        ensures { result ≡ (live-value self.now).size }
+        ensures { result ≡ (live_value self.now).size }
     {
         self.size as usize
     }
 
     /// The digest of the value.
     pub fn digest(&self) -> Digest
-        ensures { digest-bytes result ≡ (live-value self.now).digest }
+        ensures { digest_bytes result ≡ (live_value self.now).digest }
     {
         self.digest
     }

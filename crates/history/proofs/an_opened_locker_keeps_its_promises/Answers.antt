@@ -1,7 +1,7 @@
 use Rattle.std.proofs.Common.{rules}
 use Rattle.history.proofs.an_opened_locker_keeps_its_promises.Goals as goal
-use Rattle.history.proofs.Whole.{an-opened-Locker-keeps-its-promises}
+use Rattle.history.proofs.Whole.{an_opened_Locker_keeps_its_promises}
 
 -- src/lib.rt:6:1
 pub returns : goal.returns
-returns c = an-opened-Locker-keeps-its-promises
+returns c = an_opened_Locker_keeps_its_promises

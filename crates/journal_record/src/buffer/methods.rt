@@ -2,7 +2,7 @@
 
 ghost use Rattle.std.specs.Prelude.{◌≡◌, ◌+◌, ◌≤◌, [], ◌++◌, length};
 ghost use Rattle.journal_record.specs.Buffer.{buffered};
-ghost use Rattle.journal_record.specs.Layout.{longest-record};
+ghost use Rattle.journal_record.specs.Layout.{longest_record};
 
 use super::{Buffer, LONGEST_RECORD};
 
@@ -18,7 +18,7 @@ impl Buffer {
 
     // The part after the bytes that are there.
     pub(crate) fn append(&mut self, part: &[u8])
-        requires { length (buffered self.old) + length part.now ≤ longest-record }
+        requires { length (buffered self.old) + length part.now ≤ longest_record }
         ensures { buffered self.new ≡ buffered self.old ++ part.now }
     {
         let end = self.len + part.len();

@@ -1,9 +1,9 @@
 //! Making records, and reading their parts.
 
 ghost use Rattle.std.specs.Prelude.{◌≡◌};
-ghost use Rattle.naming.specs.Keys.{key-bytes};
+ghost use Rattle.naming.specs.Keys.{key_bytes};
 ghost use Rattle.entry.specs.Entries.{entry_value};
-ghost use Rattle.journal_record.specs.Records.{record-value, Valid-record};
+ghost use Rattle.journal_record.specs.Records.{record_value, ValidRecord};
 
 use super::Record;
 use entry::entry::Entry;
@@ -12,8 +12,8 @@ use naming::key::Key;
 impl Record {
     /// The record of this entry.
     pub fn new(container: u8, key: Key, entry: Entry) -> Record
-        ensures value { record-value result ≡ record { container = container; key = key-bytes key; entry = entry_value entry } }
-        ensures valid { Valid-record (record-value result) }
+        ensures value { record_value result ≡ record { container = container; key = key_bytes key; entry = entry_value entry } }
+        ensures valid { ValidRecord (record_value result) }
     {
         Record {
             container,
@@ -24,21 +24,21 @@ impl Record {
 
     /// The container of the key.
     pub fn container(&self) -> u8
-        ensures { result ≡ (record-value self.now).container }
+        ensures { result ≡ (record_value self.now).container }
     {
         self.container
     }
 
     /// The key that was written.
     pub fn key(&self) -> Key
-        ensures { key-bytes result ≡ (record-value self.now).key }
+        ensures { key_bytes result ≡ (record_value self.now).key }
     {
         self.key
     }
 
     /// What was written.
     pub fn entry(&self) -> Entry
-        ensures { entry_value result ≡ (record-value self.now).entry }
+        ensures { entry_value result ≡ (record_value self.now).entry }
     {
         self.entry
     }

@@ -1,11 +1,11 @@
 //! Deleting, and leaving what is under way.
 
 ghost use Rattle.std.specs.Prelude.{◌≡◌};
-ghost use Rattle.naming.specs.Stamps.{stamp-value};
+ghost use Rattle.naming.specs.Stamps.{stamp_value};
 ghost use Rattle.protocol.specs.Events.{deleted, left};
 ghost use Rattle.protocol.specs.Steps.{Step};
-ghost use Rattle.slots.specs.Values.{answered, setting-of};
-ghost use Rattle.locker.specs.Held.{state-of};
+ghost use Rattle.slots.specs.Values.{answered, setting_of};
+ghost use Rattle.locker.specs.Held.{state_of};
 
 use super::Locker;
 use crate::checks::valid_key;
@@ -22,7 +22,7 @@ use slots::slot::{Asked, Doing};
 impl<D: Directory, R: Row, K: DigestKind> Locker<D, R, K> {
     /// Deletes the key, which must have a value, and answers the stamp of that.
     pub fn delete(&mut self, party: u8, container: u8, key: &[u8]) -> Result<Stamp, Refusal>
-        ensures step { Step (setting-of digested self.old.limits) (state-of (meaning self.old.directory) (clouds self.old.row) self.old.slots) (deleted party container key.now (answered stamp-value result)) (state-of (meaning self.new.directory) (clouds self.new.row) self.new.slots) }
+        ensures step { Step (setting_of digested self.old.limits) (state_of (meaning self.old.directory) (clouds self.old.row) self.old.slots) (deleted party container key.now (answered stamp_value result)) (state_of (meaning self.new.directory) (clouds self.new.row) self.new.slots) }
         ensures row { self.new.row ≡ self.old.row }
         ensures limits { self.new.limits ≡ self.old.limits }
     {
@@ -40,7 +40,7 @@ impl<D: Directory, R: Row, K: DigestKind> Locker<D, R, K> {
 
     /// Ends what the party has under way.
     pub fn leave(&mut self, party: u8) -> Result<(), Refusal>
-        ensures step { Step (setting-of digested self.old.limits) (state-of (meaning self.old.directory) (clouds self.old.row) self.old.slots) (left party result) (state-of (meaning self.new.directory) (clouds self.new.row) self.new.slots) }
+        ensures step { Step (setting_of digested self.old.limits) (state_of (meaning self.old.directory) (clouds self.old.row) self.old.slots) (left party result) (state_of (meaning self.new.directory) (clouds self.new.row) self.new.slots) }
         ensures row { self.new.row ≡ self.old.row }
         ensures limits { self.new.limits ≡ self.old.limits }
     {

@@ -3,13 +3,13 @@
 ghost use Rattle.std.specs.Prelude.{◌≡◌, ◌-◌, take, slice_index_or};
 ghost use Rattle.naming.specs.Names.{name_of};
 ghost use Rattle.protocol.specs.Slots.{idle};
-ghost use Rattle.protocol.specs.Calls.{try-cloud};
-ghost use Rattle.protocol.specs.Grounds.{first-ground};
-ghost use Rattle.protocol.specs.Events.{began-fetch, tried, looked-again, found-value};
-ghost use Rattle.protocol.specs.Steps.{Step, fetching-of};
-ghost use Rattle.slots.specs.Values.{answered, setting-of, slots-value};
+ghost use Rattle.protocol.specs.Calls.{try_cloud};
+ghost use Rattle.protocol.specs.Grounds.{first_ground};
+ghost use Rattle.protocol.specs.Events.{began_fetch, tried, looked_again, found_value};
+ghost use Rattle.protocol.specs.Steps.{Step, fetching_of};
+ghost use Rattle.slots.specs.Values.{answered, setting_of, slots_value};
 ghost use Rattle.trying.specs.Tried.{Tried};
-ghost use Rattle.locker.specs.Held.{state-of, by-ground};
+ghost use Rattle.locker.specs.Held.{state_of, by_ground};
 
 use super::Locker;
 use crate::checks::{check_cloud, valid_key};
@@ -26,7 +26,7 @@ use trying::try_at;
 impl<D: Directory, R: Row, K: DigestKind> Locker<D, R, K> {
     /// Begins to fetch the value of the key, and answers its stamp and size.
     pub fn begin_fetch(&mut self, party: u8, container: u8, key: &[u8]) -> Result<Found, Refusal>
-        ensures step { Step (setting-of digested self.old.limits) (state-of (meaning self.old.directory) (clouds self.old.row) self.old.slots) (began-fetch party container key.now (answered found-value result)) (state-of (meaning self.new.directory) (clouds self.new.row) self.new.slots) }
+        ensures step { Step (setting_of digested self.old.limits) (state_of (meaning self.old.directory) (clouds self.old.row) self.old.slots) (began_fetch party container key.now (answered found_value result)) (state_of (meaning self.new.directory) (clouds self.new.row) self.new.slots) }
         ensures row { self.new.row ≡ self.old.row }
         ensures limits { self.new.limits ≡ self.old.limits }
     {
@@ -51,8 +51,8 @@ impl<D: Directory, R: Row, K: DigestKind> Locker<D, R, K> {
         cloud: usize,
         buffer: &mut [u8],
     ) -> Result<usize, Refusal>
-        ensures step { Step (setting-of digested self.old.limits) (state-of (meaning self.old.directory) (clouds self.old.row) self.old.slots) (tried party cloud buffer.old buffer.new result) (state-of (meaning self.new.directory) (clouds self.new.row) self.new.slots) }
-        ensures row { by-ground (first-ground (setting-of digested self.old.limits) (try-cloud party cloud buffer.old) (state-of (meaning self.old.directory) (clouds self.old.row) self.old.slots)) (Tried (λ said got. gets self.old.row cloud (name_of (fetching-of (slice_index_or (slots-value self.old.slots) (party - 1) idle)).container (fetching-of (slice_index_or (slots-value self.old.slots) (party - 1) idle)).key (fetching-of (slice_index_or (slots-value self.old.slots) (party - 1) idle)).stamp) (take (fetching-of (slice_index_or (slots-value self.old.slots) (party - 1) idle)).live.size buffer.old) said got self.new.row) digested cloud (fetching-of (slice_index_or (slots-value self.old.slots) (party - 1) idle)) buffer.old buffer.new result) (self.new.row ≡ self.old.row) }
+        ensures step { Step (setting_of digested self.old.limits) (state_of (meaning self.old.directory) (clouds self.old.row) self.old.slots) (tried party cloud buffer.old buffer.new result) (state_of (meaning self.new.directory) (clouds self.new.row) self.new.slots) }
+        ensures row { by_ground (first_ground (setting_of digested self.old.limits) (try_cloud party cloud buffer.old) (state_of (meaning self.old.directory) (clouds self.old.row) self.old.slots)) (Tried (λ said got. gets self.old.row cloud (name_of (fetching_of (slice_index_or (slots_value self.old.slots) (party - 1) idle)).container (fetching_of (slice_index_or (slots_value self.old.slots) (party - 1) idle)).key (fetching_of (slice_index_or (slots_value self.old.slots) (party - 1) idle)).stamp) (take (fetching_of (slice_index_or (slots_value self.old.slots) (party - 1) idle)).live.size buffer.old) said got self.new.row) digested cloud (fetching_of (slice_index_or (slots_value self.old.slots) (party - 1) idle)) buffer.old buffer.new result) (self.new.row ≡ self.old.row) }
         ensures limits { self.new.limits ≡ self.old.limits }
     {
         let party = Party::new(party)?;
@@ -66,7 +66,7 @@ impl<D: Directory, R: Row, K: DigestKind> Locker<D, R, K> {
 
     /// Goes on with the fetch by the key's entry of now. A fetch whose key has no value any more is over.
     pub fn look_again(&mut self, party: u8) -> Result<Found, Refusal>
-        ensures step { Step (setting-of digested self.old.limits) (state-of (meaning self.old.directory) (clouds self.old.row) self.old.slots) (looked-again party (answered found-value result)) (state-of (meaning self.new.directory) (clouds self.new.row) self.new.slots) }
+        ensures step { Step (setting_of digested self.old.limits) (state_of (meaning self.old.directory) (clouds self.old.row) self.old.slots) (looked_again party (answered found_value result)) (state_of (meaning self.new.directory) (clouds self.new.row) self.new.slots) }
         ensures row { self.new.row ≡ self.old.row }
         ensures limits { self.new.limits ≡ self.old.limits }
     {

@@ -3,8 +3,8 @@
 ghost use Rattle.std.specs.Prelude.{◌≡◌};
 ghost use Rattle.protocol.specs.Events.{listed};
 ghost use Rattle.protocol.specs.Steps.{Step};
-ghost use Rattle.slots.specs.Values.{setting-of};
-ghost use Rattle.locker.specs.Held.{state-of};
+ghost use Rattle.slots.specs.Values.{setting_of};
+ghost use Rattle.locker.specs.Held.{state_of};
 
 use super::Locker;
 use digest::kind::DigestKind;
@@ -18,7 +18,7 @@ impl<D: Directory, R: Row, K: DigestKind> Locker<D, R, K> {
     /// Writes the container's keys that have a value to the front of the buffer, ascending, each as its length in a byte
     /// and its bytes, and answers how many keys and bytes these are.
     pub fn list(&mut self, container: u8, buffer: &mut [u8]) -> Result<Listed, Refusal>
-        ensures step { Step (setting-of digested self.old.limits) (state-of (meaning self.old.directory) (clouds self.old.row) self.old.slots) (listed container buffer.old buffer.new result) (state-of (meaning self.new.directory) (clouds self.new.row) self.new.slots) }
+        ensures step { Step (setting_of digested self.old.limits) (state_of (meaning self.old.directory) (clouds self.old.row) self.old.slots) (listed container buffer.old buffer.new result) (state_of (meaning self.new.directory) (clouds self.new.row) self.new.slots) }
         ensures row { self.new.row ≡ self.old.row }
         ensures limits { self.new.limits ≡ self.old.limits }
     {

@@ -4,8 +4,8 @@ ghost use Rattle.std.specs.Prelude.{◌≡◌, true, false, [], length, replicat
 ghost use Rattle.refusal.specs.declared.Refusal.TheVariants.{UnsupportedRow};
 ghost use Rattle.protocol.specs.Slots.{idle};
 ghost use Rattle.history.specs.Promises.{Promises};
-ghost use Rattle.slots.specs.Values.{setting-of, supported};
-ghost use Rattle.locker.specs.Held.{state-of};
+ghost use Rattle.slots.specs.Values.{setting_of, supported};
+ghost use Rattle.locker.specs.Held.{state_of};
 
 use super::Locker;
 use digest::kind::DigestKind;
@@ -33,8 +33,8 @@ impl<D: Directory, R: Row, K: DigestKind> Locker<D, R, K> {
     ///
     /// A Locker that is opened over an empty directory keeps its promises over every history of calls.
     pub fn open(directory: D, row: R, faults: u8) -> Result<Locker<D, R, K>, Rejected<(D, R)>>
-        ensures value { MatchResult result (λ l. (supported faults (length (clouds row)) ≡ true) × (l.directory ≡ directory) × (l.row ≡ row) × (state-of (meaning l.directory) (clouds l.row) l.slots ≡ record { directory = meaning directory; clouds = clouds row; slots = replicate 16 idle }) × (setting-of digested l.limits ≡ record { digested = digested; faults = faults; clouds = length (clouds row) })) (λ e. (supported faults (length (clouds row)) ≡ false) × (e.refusal ≡ UnsupportedRow) × (e.given ≡ (directory, row))) }
-        ensures promises { IfOk result (λ l. (meaning directory).entries ≡ [] → Promises (setting-of digested l.limits) (state-of (meaning l.directory) (clouds l.row) l.slots)) }
+        ensures value { MatchResult result (λ l. (supported faults (length (clouds row)) ≡ true) × (l.directory ≡ directory) × (l.row ≡ row) × (state_of (meaning l.directory) (clouds l.row) l.slots ≡ record { directory = meaning directory; clouds = clouds row; slots = replicate 16 idle }) × (setting_of digested l.limits ≡ record { digested = digested; faults = faults; clouds = length (clouds row) })) (λ e. (supported faults (length (clouds row)) ≡ false) × (e.refusal ≡ UnsupportedRow) × (e.given ≡ (directory, row))) }
+        ensures promises { IfOk result (λ l. (meaning directory).entries ≡ [] → Promises (setting_of digested l.limits) (state_of (meaning l.directory) (clouds l.row) l.slots)) }
     {
         let Some(limits) = limits_of(&row, faults) else {
             return Err(Rejected {

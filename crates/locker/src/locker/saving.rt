@@ -2,14 +2,14 @@
 
 ghost use Rattle.std.specs.Prelude.{◌≡◌, ◌-◌, slice_index_or};
 ghost use Rattle.naming.specs.Names.{name_of};
-ghost use Rattle.naming.specs.Stamps.{stamp-value};
+ghost use Rattle.naming.specs.Stamps.{stamp_value};
 ghost use Rattle.protocol.specs.Slots.{idle};
 ghost use Rattle.protocol.specs.Calls.{store};
-ghost use Rattle.protocol.specs.Grounds.{first-ground};
-ghost use Rattle.protocol.specs.Events.{began-save, stored, committed};
-ghost use Rattle.protocol.specs.Steps.{Step, saving-of};
-ghost use Rattle.slots.specs.Values.{answered, setting-of, slots-value};
-ghost use Rattle.locker.specs.Held.{state-of, said, by-ground};
+ghost use Rattle.protocol.specs.Grounds.{first_ground};
+ghost use Rattle.protocol.specs.Events.{began_save, stored, committed};
+ghost use Rattle.protocol.specs.Steps.{Step, saving_of};
+ghost use Rattle.slots.specs.Values.{answered, setting_of, slots_value};
+ghost use Rattle.locker.specs.Held.{state_of, said, by_ground};
 
 use super::Locker;
 use crate::checks::{check_cloud, check_value, valid_key};
@@ -34,7 +34,7 @@ impl<D: Directory, R: Row, K: DigestKind> Locker<D, R, K> {
         key: &[u8],
         value: &[u8],
     ) -> Result<Stamp, Refusal>
-        ensures step { Step (setting-of digested self.old.limits) (state-of (meaning self.old.directory) (clouds self.old.row) self.old.slots) (began-save party container key.now value.now (answered stamp-value result)) (state-of (meaning self.new.directory) (clouds self.new.row) self.new.slots) }
+        ensures step { Step (setting_of digested self.old.limits) (state_of (meaning self.old.directory) (clouds self.old.row) self.old.slots) (began_save party container key.now value.now (answered stamp_value result)) (state_of (meaning self.new.directory) (clouds self.new.row) self.new.slots) }
         ensures row { self.new.row ≡ self.old.row }
         ensures limits { self.new.limits ≡ self.old.limits }
     {
@@ -52,8 +52,8 @@ impl<D: Directory, R: Row, K: DigestKind> Locker<D, R, K> {
 
     /// Puts the value that was begun at a cloud, and answers how many clouds have acknowledged it.
     pub fn store(&mut self, party: u8, cloud: usize, value: &[u8]) -> Result<usize, Refusal>
-        ensures step { Step (setting-of digested self.old.limits) (state-of (meaning self.old.directory) (clouds self.old.row) self.old.slots) (stored party cloud value.now result) (state-of (meaning self.new.directory) (clouds self.new.row) self.new.slots) }
-        ensures row { by-ground (first-ground (setting-of digested self.old.limits) (store party cloud value.now) (state-of (meaning self.old.directory) (clouds self.old.row) self.old.slots)) (puts self.old.row cloud (name_of (saving-of (slice_index_or (slots-value self.old.slots) (party - 1) idle)).container (saving-of (slice_index_or (slots-value self.old.slots) (party - 1) idle)).key (saving-of (slice_index_or (slots-value self.old.slots) (party - 1) idle)).stamp) value.now (said result) self.new.row) (self.new.row ≡ self.old.row) }
+        ensures step { Step (setting_of digested self.old.limits) (state_of (meaning self.old.directory) (clouds self.old.row) self.old.slots) (stored party cloud value.now result) (state_of (meaning self.new.directory) (clouds self.new.row) self.new.slots) }
+        ensures row { by_ground (first_ground (setting_of digested self.old.limits) (store party cloud value.now) (state_of (meaning self.old.directory) (clouds self.old.row) self.old.slots)) (puts self.old.row cloud (name_of (saving_of (slice_index_or (slots_value self.old.slots) (party - 1) idle)).container (saving_of (slice_index_or (slots_value self.old.slots) (party - 1) idle)).key (saving_of (slice_index_or (slots_value self.old.slots) (party - 1) idle)).stamp) value.now (said result) self.new.row) (self.new.row ≡ self.old.row) }
         ensures limits { self.new.limits ≡ self.old.limits }
     {
         let party = Party::new(party)?;
@@ -71,7 +71,7 @@ impl<D: Directory, R: Row, K: DigestKind> Locker<D, R, K> {
 
     /// Sets the key's entry to the value that was saved, once more clouds have it than may be unsound.
     pub fn commit(&mut self, party: u8) -> Result<CommitOutcome, Refusal>
-        ensures step { Step (setting-of digested self.old.limits) (state-of (meaning self.old.directory) (clouds self.old.row) self.old.slots) (committed party result) (state-of (meaning self.new.directory) (clouds self.new.row) self.new.slots) }
+        ensures step { Step (setting_of digested self.old.limits) (state_of (meaning self.old.directory) (clouds self.old.row) self.old.slots) (committed party result) (state_of (meaning self.new.directory) (clouds self.new.row) self.new.slots) }
         ensures row { self.new.row ≡ self.old.row }
         ensures limits { self.new.limits ≡ self.old.limits }
     {

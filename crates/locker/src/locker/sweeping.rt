@@ -1,15 +1,15 @@
 //! Sweeping: beginning, and sweeping a cloud.
 
 ghost use Rattle.std.specs.Prelude.{◌≡◌, ◌-◌, slice_index_or};
-ghost use Rattle.naming.specs.Stamps.{stamp-value};
+ghost use Rattle.naming.specs.Stamps.{stamp_value};
 ghost use Rattle.protocol.specs.Slots.{idle};
 ghost use Rattle.protocol.specs.Calls.{sweep};
-ghost use Rattle.protocol.specs.Grounds.{first-ground};
+ghost use Rattle.protocol.specs.Grounds.{first_ground};
 ghost use Rattle.protocol.specs.Sweeping.{Swept};
-ghost use Rattle.protocol.specs.Events.{began-sweep, swept};
-ghost use Rattle.protocol.specs.Steps.{Step, sweeping-of};
-ghost use Rattle.slots.specs.Values.{answered, setting-of, slots-value};
-ghost use Rattle.locker.specs.Held.{state-of, by-ground, swept-said};
+ghost use Rattle.protocol.specs.Events.{began_sweep, swept};
+ghost use Rattle.protocol.specs.Steps.{Step, sweeping_of};
+ghost use Rattle.slots.specs.Values.{answered, setting_of, slots_value};
+ghost use Rattle.locker.specs.Held.{state_of, by_ground, swept_said};
 
 use super::Locker;
 use crate::checks::{check_cloud, valid_key};
@@ -25,7 +25,7 @@ use sweeping::sweep::sweep;
 impl<D: Directory, R: Row, K: DigestKind> Locker<D, R, K> {
     /// Begins to sweep the names of the key that are below its entry's stamp, and answers that stamp.
     pub fn begin_sweep(&mut self, party: u8, container: u8, key: &[u8]) -> Result<Stamp, Refusal>
-        ensures step { Step (setting-of digested self.old.limits) (state-of (meaning self.old.directory) (clouds self.old.row) self.old.slots) (began-sweep party container key.now (answered stamp-value result)) (state-of (meaning self.new.directory) (clouds self.new.row) self.new.slots) }
+        ensures step { Step (setting_of digested self.old.limits) (state_of (meaning self.old.directory) (clouds self.old.row) self.old.slots) (began_sweep party container key.now (answered stamp_value result)) (state_of (meaning self.new.directory) (clouds self.new.row) self.new.slots) }
         ensures row { self.new.row ≡ self.old.row }
         ensures limits { self.new.limits ≡ self.old.limits }
     {
@@ -46,8 +46,8 @@ impl<D: Directory, R: Row, K: DigestKind> Locker<D, R, K> {
 
     /// Drops the names of the key's older writes that the cloud lists, and answers how many drops it acknowledged.
     pub fn sweep(&mut self, party: u8, cloud: usize) -> Result<usize, Refusal>
-        ensures step { Step (setting-of digested self.old.limits) (state-of (meaning self.old.directory) (clouds self.old.row) self.old.slots) (swept party cloud result) (state-of (meaning self.new.directory) (clouds self.new.row) self.new.slots) }
-        ensures row { by-ground (first-ground (setting-of digested self.old.limits) (sweep party cloud) (state-of (meaning self.old.directory) (clouds self.old.row) self.old.slots)) (Swept (λ a above place answer place' b. nexts a cloud above place answer place' b) (λ a name answer b. drops a cloud name answer b) (sweeping-of (slice_index_or (slots-value self.old.slots) (party - 1) idle)) self.old.row self.new.row (swept-said result)) (self.new.row ≡ self.old.row) }
+        ensures step { Step (setting_of digested self.old.limits) (state_of (meaning self.old.directory) (clouds self.old.row) self.old.slots) (swept party cloud result) (state_of (meaning self.new.directory) (clouds self.new.row) self.new.slots) }
+        ensures row { by_ground (first_ground (setting_of digested self.old.limits) (sweep party cloud) (state_of (meaning self.old.directory) (clouds self.old.row) self.old.slots)) (Swept (λ a above place answer place' b. nexts a cloud above place answer place' b) (λ a name answer b. drops a cloud name answer b) (sweeping_of (slice_index_or (slots_value self.old.slots) (party - 1) idle)) self.old.row self.new.row (swept_said result)) (self.new.row ≡ self.old.row) }
         ensures limits { self.new.limits ≡ self.old.limits }
     {
         let party = Party::new(party)?;

@@ -1,9 +1,9 @@
 //! The calls at a cloud that lags. Of an unsound cloud nothing is said but its bounds.
 
 ghost use Rattle.std.specs.Prelude.{◌≡◌, ◌≤◌, false, [], length, IfSome, IfOk, Some, None};
-ghost use Rattle.cloud.specs.Meaning.{CloudMeaning, longest-name};
+ghost use Rattle.cloud.specs.Meaning.{CloudMeaning, longest_name};
 ghost use Rattle.std.proofs.Common.{sym, ◌∙◌, arith};
-ghost use Rattle.bytemap.proofs.Find.{find-empty};
+ghost use Rattle.bytemap.proofs.Find.{find_empty};
 ghost use borrow.Author.Tests.{clash};
 
 use super::LaggingCloud;
@@ -19,12 +19,12 @@ impl Cloud for LaggingCloud {
 
     ghost drops = { λ s name r t. Unit {0} };
 
-    ghost nexts = { λ s above place r place' t. IfOk r (λ o. IfSome o (λ n. n ≤ longest-name)) };
+    ghost nexts = { λ s above place r place' t. IfOk r (λ o. IfSome o (λ n. n ≤ longest_name)) };
 
     ghost limited = { λ s.
         record {
           ascending = tt;
-          short = λ n v e. let no' : None ≡ Some v = sym (find-empty n) ∙ e in absurd (Prim.grind arith);
+          short = λ n v e. let no' : None ≡ Some v = sym (find_empty n) ∙ e in absurd (Prim.grind arith);
           places = omega arith;
         } };
 

@@ -1,8 +1,8 @@
 //! Making a key of bytes.
 
 ghost use Rattle.std.specs.Prelude.{◌≡◌, true, false, MatchOption};
-ghost use Rattle.naming.specs.Text.{printable, valid-key, visible};
-ghost use Rattle.naming.specs.Keys.{key-bytes};
+ghost use Rattle.naming.specs.Text.{printable, valid_key, visible};
+ghost use Rattle.naming.specs.Keys.{key_bytes};
 
 use super::{Key, LONGEST};
 use crate::buffer::overwrite;
@@ -10,7 +10,7 @@ use crate::buffer::overwrite;
 impl Key {
     /// The key of these bytes, where they are a key.
     pub fn new(bytes: &[u8]) -> Option<Key>
-        ensures { MatchOption result (valid-key bytes.now ≡ false) (λ k. (valid-key bytes.now ≡ true) × (key-bytes k ≡ bytes.now)) }
+        ensures { MatchOption result (valid_key bytes.now ≡ false) (λ k. (valid_key bytes.now ≡ true) × (key_bytes k ≡ bytes.now)) }
     {
         if !is_valid(bytes) {
             return None;
@@ -25,7 +25,7 @@ impl Key {
 }
 
 fn is_valid(bytes: &[u8]) -> bool
-    ensures { result ≡ valid-key bytes.now }
+    ensures { result ≡ valid_key bytes.now }
 {
     1 <= bytes.len() && bytes.len() <= LONGEST && is_printable(bytes)
 }

@@ -1,14 +1,14 @@
 //! Beginning a save, going on with it, and the entry that it comes to.
 
 ghost use Rattle.std.specs.Prelude.{◌≡◌, true, false, ◌||◌, ltb, length, if◌then◌else◌, MatchOption, nat_le, nat_lt};
-ghost use Rattle.naming.specs.Keys.{key-bytes};
-ghost use Rattle.naming.specs.Names.{name-bytes, name_of};
-ghost use Rattle.naming.specs.Stamps.{stamp-value};
+ghost use Rattle.naming.specs.Keys.{key_bytes};
+ghost use Rattle.naming.specs.Names.{name_bytes, name_of};
+ghost use Rattle.naming.specs.Stamps.{stamp_value};
 ghost use Rattle.entry.specs.Entries.{entry_value, lists};
 ghost use Rattle.protocol.specs.Clouds.{count};
-ghost use Rattle.protocol.specs.Grounds.{is-begun-value, saved-entry};
+ghost use Rattle.protocol.specs.Grounds.{is_begun_value, saved_entry};
 ghost use Rattle.protocol.specs.Steps.{acknowledged};
-ghost use Rattle.slots.specs.Values.{saving-value, can-begin, digesting};
+ghost use Rattle.slots.specs.Values.{saving_value, can_begin, digesting};
 
 use super::Saving;
 use crate::clouds::CloudSet;
@@ -31,7 +31,7 @@ impl Saving {
         stamp: Stamp,
         value: &[u8],
     ) -> Option<Saving>
-        ensures { MatchOption result (can-begin (stamp-value stamp) (length value.now) ≡ false) (λ x. (can-begin (stamp-value stamp) (length value.now) ≡ true) × (saving-value x ≡ record { container = container; key = key-bytes key; stamp = stamp-value stamp; size = length value.now; digest = digested value.now; stored = 0 })) }
+        ensures { MatchOption result (can_begin (stamp_value stamp) (length value.now) ≡ false) (λ x. (can_begin (stamp_value stamp) (length value.now) ≡ true) × (saving_value x ≡ record { container = container; key = key_bytes key; stamp = stamp_value stamp; size = length value.now; digest = digested value.now; stored = 0 })) }
     {
         if stamp.sequence() < 1 || stamp.writer() < 1 || value.len() > LONGEST_VALUE {
             return None;
@@ -49,35 +49,35 @@ impl Saving {
 
     /// The container and the key.
     pub fn address(&self) -> (u8, Key)
-        ensures { (result.0 ≡ (saving-value self.now).container) × (key-bytes result.1 ≡ (saving-value self.now).key) }
+        ensures { (result.0 ≡ (saving_value self.now).container) × (key_bytes result.1 ≡ (saving_value self.now).key) }
     {
         (self.container, self.key)
     }
 
     /// How many clouds have acknowledged the value.
     pub fn count(&self) -> usize
-        ensures { result ≡ count (saving-value self.now).stored }
+        ensures { result ≡ count (saving_value self.now).stored }
     {
         self.stored.count()
     }
 
     /// The name under which the value is put.
     pub fn name(&self) -> Name
-        ensures { name-bytes result ≡ name_of (saving-value self.now).container (saving-value self.now).key (saving-value self.now).stamp }
+        ensures { name_bytes result ≡ name_of (saving_value self.now).container (saving_value self.now).key (saving_value self.now).stamp }
     {
         Name::new(self.container, &self.key, &self.stamp)
     }
 
     /// Whether this is the value that was begun. Its digest is computed only where the size is right.
     pub(crate) fn is_of<K: DigestKind>(&self, value: &[u8]) -> bool
-        ensures { result ≡ is-begun-value (digesting digested) value.now (saving-value self.now) }
+        ensures { result ≡ is_begun_value (digesting digested) value.now (saving_value self.now) }
     {
         value.len() == self.size as usize && self.digest.matches::<K>(value)
     }
 
     /// The save with one cloud more that has acknowledged. A number that no cloud can have adds nothing.
     pub fn acknowledged(&self, cloud: usize) -> Saving
-        ensures { saving-value result ≡ (if ltb cloud 7 then acknowledged (saving-value self.now) cloud else saving-value self.now) }
+        ensures { saving_value result ≡ (if ltb cloud 7 then acknowledged (saving_value self.now) cloud else saving_value self.now) }
     {
         Saving {
             container: self.container,
@@ -91,21 +91,21 @@ impl Saving {
 
     /// Whether the cloud has acknowledged the value, or more clouds have than may be unsound.
     pub(crate) fn is_done_at(&self, cloud: usize, limits: &Limits) -> bool
-        ensures { result ≡ (lists (saving-value self.now).stored cloud || nat_lt limits.now.faults (count (saving-value self.now).stored)) }
+        ensures { result ≡ (lists (saving_value self.now).stored cloud || nat_lt limits.now.faults (count (saving_value self.now).stored)) }
     {
         self.stored.has(cloud) || self.count() > limits.faults()
     }
 
     /// Whether no more clouds have acknowledged the value than may be unsound.
     pub(crate) fn is_short(&self, limits: &Limits) -> bool
-        ensures { result ≡ nat_le (count (saving-value self.now).stored) limits.now.faults }
+        ensures { result ≡ nat_le (count (saving_value self.now).stored) limits.now.faults }
     {
         self.count() <= limits.faults()
     }
 
     /// The entry that a commit sets; none as long as no cloud has acknowledged.
     pub fn entry(&self) -> Option<Entry>
-        ensures { MatchOption result ((saving-value self.now).stored ≡ 0) (λ e. entry_value e ≡ saved-entry (saving-value self.now)) }
+        ensures { MatchOption result ((saving_value self.now).stored ≡ 0) (λ e. entry_value e ≡ saved_entry (saving_value self.now)) }
     {
         let live = Live::new(
             self.stored.bits(),

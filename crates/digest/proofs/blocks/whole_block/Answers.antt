@@ -1,5 +1,5 @@
 use Rattle.std.proofs.Common.{rules}
-use Rattle.digest.proofs.Padding.{partly_none, partly_more, partly-all}
+use Rattle.digest.proofs.Padding.{partly_none, partly_more, partly_all}
 use Rattle.digest.proofs.blocks.whole_block.Goals as goal
 
 pub loop-t-init : goal.loop-t-init
@@ -9,4 +9,4 @@ pub loop-t-preserved : goal.loop-t-preserved
 loop-t-preserved c = search (rules, partly_more)
 
 pub returns : goal.returns
-returns c = search (rules, partly-all)
+returns c = search (rules, partly_all)

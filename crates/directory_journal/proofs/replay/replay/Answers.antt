@@ -1,6 +1,6 @@
 use Rattle.std.proofs.Common.{refl, ◌∙◌, arith}
-use Rattle.directory_table.specs.Making.{table-meaning}
-use Rattle.directory_journal.proofs.Replaying.{turn-ends, turn-fails, turn-takes, turn-within, turn-goes-on}
+use Rattle.directory_table.specs.Making.{table_meaning}
+use Rattle.directory_journal.proofs.Replaying.{turn_ends, turn_fails, turn_takes, turn_within, turn_goes_on}
 use Rattle.directory_journal.proofs.replay.replay.Goals as goal
 
 pub loop-index-init : goal.loop-index-init
@@ -10,32 +10,32 @@ pub returns-in-default : goal.returns-in-default
 returns-in-default c =
     let inv = c.loop-index.invariant in
     record {
-      value = turn-fails (table-meaning c.args.index.now) (table-meaning c.loop-index.index) c.args.bytes.now c.loop-index.at inv.2 c.loop-index-test.ensures c.in-default.ensures.value;
+      value = turn_fails (table_meaning c.args.index.now) (table_meaning c.loop-index.index) c.args.bytes.now c.loop-index.at inv.2 c.loop-index-test.ensures c.in-default.ensures.value;
       places = c.in-default.ensures.places ∙ inv.1;
     }
 
 pub loop-index-smaller : goal.loop-index-smaller
 loop-index-smaller c =
     let inv = c.loop-index.invariant in
-    let low = turn-takes (table-meaning c.args.index.now) (table-meaning c.loop-index.index) c.args.bytes.now c.loop-index.at inv.2 (table-meaning c.replay-one.new.index) c.in-Some.len c.in-Some.ensures.value in
-    let high = turn-within (table-meaning c.args.index.now) (table-meaning c.loop-index.index) c.args.bytes.now c.loop-index.at inv.2 (table-meaning c.replay-one.new.index) c.in-Some.len c.in-Some.ensures.value inv.0 in
+    let low = turn_takes (table_meaning c.args.index.now) (table_meaning c.loop-index.index) c.args.bytes.now c.loop-index.at inv.2 (table_meaning c.replay-one.new.index) c.in-Some.len c.in-Some.ensures.value in
+    let high = turn_within (table_meaning c.args.index.now) (table_meaning c.loop-index.index) c.args.bytes.now c.loop-index.at inv.2 (table_meaning c.replay-one.new.index) c.in-Some.len c.in-Some.ensures.value inv.0 in
     omega (arith, low, high)
 
 pub loop-index-preserved : goal.loop-index-preserved
 loop-index-preserved c =
     let inv = c.loop-index.invariant in
-    let first = table-meaning c.args.index.now in
-    let now = table-meaning c.loop-index.index in
-    let after = table-meaning c.replay-one.new.index in (
-      turn-within first now c.args.bytes.now c.loop-index.at inv.2 after c.in-Some.len c.in-Some.ensures.value inv.0,
+    let first = table_meaning c.args.index.now in
+    let now = table_meaning c.loop-index.index in
+    let after = table_meaning c.replay-one.new.index in (
+      turn_within first now c.args.bytes.now c.loop-index.at inv.2 after c.in-Some.len c.in-Some.ensures.value inv.0,
       c.in-Some.ensures.places ∙ inv.1,
-      turn-goes-on first now c.args.bytes.now c.loop-index.at inv.2 after c.in-Some.len c.in-Some.ensures.value c.loop-index-test.ensures,
+      turn_goes_on first now c.args.bytes.now c.loop-index.at inv.2 after c.in-Some.len c.in-Some.ensures.value c.loop-index-test.ensures,
     )
 
 pub returns : goal.returns
 returns c =
     let inv = c.loop-index.invariant in
     record {
-      value = (turn-ends (table-meaning c.args.index.now) (table-meaning c.loop-index.index) c.args.bytes.now c.loop-index.at inv.2 c.loop-index-test.ensures, inv.0);
+      value = (turn_ends (table_meaning c.args.index.now) (table_meaning c.loop-index.index) c.args.bytes.now c.loop-index.at inv.2 c.loop-index-test.ensures, inv.0);
       places = inv.1;
     }

@@ -1,7 +1,7 @@
 use Rattle.directory_journal.proofs.storing.mark_end.Goals as goal
 use Rattle.std.proofs.Common.{refl, arith}
 use Rattle.std.proofs.lemmas.List.{take-set-le, length-set}
-use Rattle.directory_journal.proofs.Marks.{mark_set, mark-none}
+use Rattle.directory_journal.proofs.Marks.{mark_set, mark_none}
 
 pub returns-then-end-bytes : goal.returns-then-end-bytes
 returns-then-end-bytes c =
@@ -13,4 +13,4 @@ returns-then-end-bytes c =
 
 pub returns-else-end-bytes : goal.returns-else-end-bytes
 returns-else-end-bytes c =
-    record { marked = mark-none c.args.end c.args.bytes.now c.if-end-bytes.false; kept = refl; size = refl }
+    record { marked = mark_none c.args.end c.args.bytes.now c.if-end-bytes.false; kept = refl; size = refl }

@@ -1,9 +1,9 @@
 use Rattle.std.proofs.Common.{◌≡◌, ◌*◌, ◌≤◌, length, take, sym, refl, ap, ◌∙◌, subst, arith}
 use Rattle.std.proofs.lemmas.List.{take_all}
-use Rattle.journal_record.specs.Layout.{longest-record}
-use Rattle.journal_record.specs.Records.{record-value}
-use Rattle.directory_journal.specs.Records.{all-encoded, records-of}
-use Rattle.directory_journal.proofs.Rewrites.{none_yet, entry-written, entry-fits}
+use Rattle.journal_record.specs.Layout.{longest_record}
+use Rattle.journal_record.specs.Records.{record_value}
+use Rattle.directory_journal.specs.Records.{all_encoded, records_of}
+use Rattle.directory_journal.proofs.Rewrites.{none_yet, entry_written, entry_fits}
 use Rattle.directory_journal.proofs.storing.rewrite.Goals.{in-Some, in-default}
 use Rattle.directory_journal.proofs.storing.rewrite.Goals as goal
 
@@ -17,15 +17,15 @@ pub loop-item-preserved : goal.loop-item-preserved
 loop-item-preserved c =
     let inv = c.loop-item.invariant in
     let i = c.loop-item.item-index in
-    let room : length c.args.entries.now * longest-record ≤ length c.loop-item.bytes = omega (arith, inv.2, c.requires) in
+    let room : length c.args.entries.now * longest_record ≤ length c.loop-item.bytes = omega (arith, inv.2, c.requires) in
     elim c.match-append.branch [
       | in-Some w ↦
-          let p = entry-written c.args.entries.now i c.item-item.result c.item-item.is c.loop-item-test.true (record-value c.to-record.result) c.to-record.ensures
+          let p = entry_written c.args.entries.now i c.item-item.result c.item-item.is c.loop-item-test.true (record_value c.to-record.result) c.to-record.ensures
           c.loop-item.bytes c.loop-item.end inv.0 inv.1 room w.in-Some.next c.append.new.bytes w.in-Some.ensures in
           let e = w.end-is in
           (ap (λ n. take n c.append.new.bytes) e ∙ p.0, omega (arith, e, p.1), w.in-Some.ensures.3 ∙ inv.2, omega (arith, c.loop-item-test.true))
       | in-default w ↦
-          absurd (entry-fits c.args.entries.now i c.item-item.result c.item-item.is c.loop-item-test.true (record-value c.to-record.result) c.to-record.ensures
+          absurd (entry_fits c.args.entries.now i c.item-item.result c.item-item.is c.loop-item-test.true (record_value c.to-record.result) c.to-record.ensures
           c.loop-item.bytes c.loop-item.end inv.0 inv.1 room c.append.new.bytes w.in-default.ensures)
     ]
 
@@ -34,7 +34,7 @@ returns c =
     let inv = c.loop-item.invariant in
     let all : take c.loop-item.item-index c.args.entries.now ≡ c.args.entries.now = take_all c.loop-item.item-index c.args.entries.now c.loop-item-test.false in
     record {
-      records = inv.0 ∙ ap (λ xs. all-encoded (records-of xs)) all;
+      records = inv.0 ∙ ap (λ xs. all_encoded (records_of xs)) all;
       within = omega (arith, inv.1, inv.3, c.requires);
       size = inv.2;
     }

@@ -1,13 +1,13 @@
 use Rattle.std.proofs.Common.{length, ap, ◌∙◌}
 use Rattle.std.proofs.lemmas.List.{get_or_default}
 use Rattle.naming_next.specs.declared.container_key.KeyBound.{KeyBound}
-use Rattle.directory_table.proofs.Searched.{none-after-bound, found_after, past-container}
+use Rattle.directory_table.proofs.Searched.{none_after_bound, found_after, past_container}
 use Rattle.directory_table.proofs.lookup.index_after.Goals as goal
 
 pub returns-in-err-i : goal.returns-in-err-i
 returns-in-err-i c =
     let q : KeyBound = record { container = c.args.container; bytes = c.args.above } in
-    rw c.from-residual.ensures (none-after-bound q c.args.entries.now c.in-err-i.ensures)
+    rw c.from-residual.ensures (none_after_bound q c.args.entries.now c.in-err-i.ensures)
 
 pub returns-then-entries-i : goal.returns-then-entries-i
 returns-then-entries-i c =
@@ -24,5 +24,5 @@ returns-else-entries-i c =
     let xs = c.args.entries.now in
     let i = c.in-ok-i.i in
     let found = c.in-ok-i.ensures in
-    past-container q xs i found
+    past_container q xs i found
     (λ d e. c.if-entries-i.false (ap (λ x. x.at.container) (get_or_default xs i c.index-entries-i.result d found.within) ∙ e))

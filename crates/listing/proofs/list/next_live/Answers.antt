@@ -1,9 +1,9 @@
 use Rattle.std.proofs.Common.{◌≡◌, true, false, sym, refl, ap, ◌∙◌, subst}
-use Rattle.naming.specs.Keys.{key-bytes}
+use Rattle.naming.specs.Keys.{key_bytes}
 use Rattle.directory.specs.Meaning.{DirectoryMeaning}
-use Rattle.directory.specs.Calls.{entry_of, key-after}
-use Rattle.protocol.specs.Grounds.{is-there, live_of}
-use Rattle.listing.proofs.Walk.{Walked, walk_begins, walk_ends, walk-goes-on, walk-shrinks}
+use Rattle.directory.specs.Calls.{entry_of, key_after}
+use Rattle.protocol.specs.Grounds.{is_there, live_of}
+use Rattle.listing.proofs.Walk.{Walked, walk_begins, walk_ends, walk_goes_on, walk_shrinks}
 use Rattle.listing.proofs.list.next_live.Goals as goal
 
 pub loop-next-init : goal.loop-next-init
@@ -21,7 +21,7 @@ returns-then-is-live g c =
     record {
       value = walk_ends (g.D.Directory.meaning c.args.directory.now) c.args.container c.args.above.now c.in-Some.key c.loop-next.next c.in-Some.is
           (subst (λ (m : DirectoryMeaning). Walked m c.args.container c.args.above.now c.loop-next.next) first c.loop-next.invariant.1)
-          (subst (λ (m : DirectoryMeaning). true ≡ is-there (live_of (entry_of m c.args.container (key-bytes c.in-Some.key)))) same c.if-is-live.ensures.value);
+          (subst (λ (m : DirectoryMeaning). true ≡ is_there (live_of (entry_of m c.args.container (key_bytes c.in-Some.key)))) same c.if-is-live.ensures.value);
       same = c.is-live.ensures.same ∙ same;
     }
 
@@ -29,16 +29,16 @@ pub loop-next-smaller : goal.loop-next-smaller
 loop-next-smaller g c =
     let d = c.next-key-next.new.directory in
     let still = c.is-live.ensures.same ∙ c.loop-next.invariant.0 in
-    let value = c.next-key-next-in-Some.ensures.value ∙ ap (λ (m : DirectoryMeaning). key-after m c.args.container c.as-bytes.result.now) still ∙ ap (key-after (g.D.Directory.meaning d) c.args.container) c.as-bytes.ensures in
-    walk-shrinks (g.D.Directory.meaning d) (g.met.D.Directory.limited d) c.args.container c.in-Some.key c.loop-next.next c.next-key-next-in-Some.result c.in-Some.is value
+    let value = c.next-key-next-in-Some.ensures.value ∙ ap (λ (m : DirectoryMeaning). key_after m c.args.container c.as-bytes.result.now) still ∙ ap (key_after (g.D.Directory.meaning d) c.args.container) c.as-bytes.ensures in
+    walk_shrinks (g.D.Directory.meaning d) (g.met.D.Directory.limited d) c.args.container c.in-Some.key c.loop-next.next c.next-key-next-in-Some.result c.in-Some.is value
 
 pub loop-next-preserved : goal.loop-next-preserved
 loop-next-preserved g c =
     let d = c.next-key-next.new.directory in
     let still = c.is-live.ensures.same ∙ c.loop-next.invariant.0 in
-    let value = c.next-key-next-in-Some.ensures.value ∙ ap (λ (m : DirectoryMeaning). key-after m c.args.container c.as-bytes.result.now) still ∙ ap (key-after (g.D.Directory.meaning d) c.args.container) c.as-bytes.ensures in (
+    let value = c.next-key-next-in-Some.ensures.value ∙ ap (λ (m : DirectoryMeaning). key_after m c.args.container c.as-bytes.result.now) still ∙ ap (key_after (g.D.Directory.meaning d) c.args.container) c.as-bytes.ensures in (
       c.next-key-next-in-Some.ensures.same ∙ still,
-      walk-goes-on (g.D.Directory.meaning d) c.args.container c.args.above.now c.in-Some.key c.loop-next.next c.in-Some.is c.loop-next.invariant.1 (g.met.D.Directory.limited d)
-          (subst (λ (m : DirectoryMeaning). false ≡ is-there (live_of (entry_of m c.args.container (key-bytes c.in-Some.key)))) c.loop-next.invariant.0 c.if-is-live.ensures.value)
+      walk_goes_on (g.D.Directory.meaning d) c.args.container c.args.above.now c.in-Some.key c.loop-next.next c.in-Some.is c.loop-next.invariant.1 (g.met.D.Directory.limited d)
+          (subst (λ (m : DirectoryMeaning). false ≡ is_there (live_of (entry_of m c.args.container (key_bytes c.in-Some.key)))) c.loop-next.invariant.0 c.if-is-live.ensures.value)
           c.next-key-next-in-Some.result value,
     )

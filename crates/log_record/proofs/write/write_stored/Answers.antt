@@ -2,9 +2,9 @@ use Rattle.std.proofs.Common.{◌/◌, ◌%◌, [], ◌∷◌, ◌++◌, length,
 use Rattle.std.proofs.lemmas.Bool.{leb-true}
 use Rattle.log_record.specs.Records.{stored}
 use Rattle.log_record.specs.Written.{overwritten}
-use Rattle.log_record.proofs.ReadBack.{length-stored, records-read-back}
+use Rattle.log_record.proofs.ReadBack.{length_stored, records_read_back}
 use Rattle.log_record.proofs.Overwriting.{written_on}
-use Rattle.log_record.proofs.Outcomes.{not_valid, no_room, is-written, stored-valid, stored-too-long, stored-parts}
+use Rattle.log_record.proofs.Outcomes.{not_valid, no_room, is_written, stored_valid, stored_too_long, stored_parts}
 use Rattle.log_record.proofs.write.write_stored.Goals as goal
 
 pub returns-then-name-gt-LONGEST-NAME : goal.returns-then-name-gt-LONGEST-NAME
@@ -12,8 +12,8 @@ returns-then-name-gt-LONGEST-NAME c =
     let n = c.args.name.now in
     let v = c.args.value.now in
     record {
-      written = not_valid c.args.bytes.now c.args.at (stored n v) (stored-too-long n v (elim c.then-name-gt-LONGEST-NAME.either [ inl h ↦ inl h | inr h ↦ inr h.1 ]));
-      read_back = records-read-back;
+      written = not_valid c.args.bytes.now c.args.at (stored n v) (stored_too_long n v (elim c.then-name-gt-LONGEST-NAME.either [ inl h ↦ inl h | inr h ↦ inr h.1 ]));
+      read_back = records_read_back;
     }
 
 pub returns-then-not-has-room : goal.returns-then-not-has-room
@@ -21,8 +21,8 @@ returns-then-not-has-room c =
     let n = c.args.name.now in
     let v = c.args.value.now in
     record {
-      written = no_room c.args.bytes.now c.args.at (stored n v) _ (length-stored n v) (sym c.if-not-has-room.ensures);
-      read_back = records-read-back;
+      written = no_room c.args.bytes.now c.args.at (stored n v) _ (length_stored n v) (sym c.if-not-has-room.ensures);
+      read_back = records_read_back;
     }
 
 pub returns : goal.returns
@@ -35,6 +35,6 @@ returns c =
     let w₁ = written_on b c.args.at (length n ∷ n) (omega (arith, leb-true _ _ room)) c.write-name-after-name.new.bytes c.write-name-after-name.result s c.write-after-size.new.bytes c.write-name-after-name.ensures.end c.write-name-after-name.ensures.after c.write-after-size.ensures.after in
     let w₂ = written_on b c.args.at ((length n ∷ n) ++ s) (omega (arith, leb-true _ _ room, length-append n s)) c.write-after-size.new.bytes c.write-after-size.result v c.write.new.bytes (omega (arith, length-append n s)) w₁ c.write.ensures.after in
     record {
-      written = is-written b c.args.at (stored n v) _ c.write.result c.write.new.bytes (stored-valid n v c.if-name-gt-LONGEST-NAME.false c.if-value-gt-LONGEST-VALUE.false) (length-stored n v) room (omega arith) (w₂ ∙ ap (overwritten b c.args.at) (stored-parts n v));
-      read_back = records-read-back;
+      written = is_written b c.args.at (stored n v) _ c.write.result c.write.new.bytes (stored_valid n v c.if-name-gt-LONGEST-NAME.false c.if-value-gt-LONGEST-VALUE.false) (length_stored n v) room (omega arith) (w₂ ∙ ap (overwritten b c.args.at) (stored_parts n v));
+      read_back = records_read_back;
     }

@@ -1,14 +1,14 @@
 use Rattle.std.proofs.Common.{length, ap, ◌∙◌}
 use Rattle.std.proofs.lemmas.List.{get_or_default}
 use Rattle.naming_next.specs.declared.container_key.KeyBound.{KeyBound}
-use Rattle.naming_next.specs.ContainerKeysLemmas.{key-none, key-found, key-past}
+use Rattle.naming_next.specs.ContainerKeysLemmas.{key_none, key_found, key_past}
 use Rattle.naming_next.proofs.next.next_key.Goals as goal
 
 pub returns-in-err-i : goal.returns-in-err-i
 returns-in-err-i c =
     let q : KeyBound = record { container = c.args.container; bytes = c.args.above } in
     let xs = c.args.keys.now in
-    rw c.from-residual.ensures (key-none q xs (length xs) c.in-err-i.ensures)
+    rw c.from-residual.ensures (key_none q xs (length xs) c.in-err-i.ensures)
 
 pub returns-then-keys-i : goal.returns-then-keys-i
 returns-then-keys-i c =
@@ -16,7 +16,7 @@ returns-then-keys-i c =
     let xs = c.args.keys.now in
     let i = c.in-ok-i.i in
     let found = c.in-ok-i.ensures in
-    key-found q xs (length xs) i found
+    key_found q xs (length xs) i found
     (λ d. ap (λ x. x.container) (get_or_default xs i d c.index-keys-i.result found.within) ∙ c.if-keys-i.true)
 
 pub returns-else-keys-i : goal.returns-else-keys-i
@@ -25,5 +25,5 @@ returns-else-keys-i c =
     let xs = c.args.keys.now in
     let i = c.in-ok-i.i in
     let found = c.in-ok-i.ensures in
-    key-past q xs (length xs) i found
+    key_past q xs (length xs) i found
     (λ d e. c.if-keys-i.false (ap (λ x. x.container) (get_or_default xs i c.index-keys-i.result d found.within) ∙ e))

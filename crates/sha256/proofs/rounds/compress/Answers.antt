@@ -3,18 +3,18 @@ use mathlib.Core.List.{List}
 use Prim.Native.Nat.{ℕ}
 use lib.Dec.{lit≤}
 use Rattle.digest.specs.Rounds.{step}
-use Rattle.digest.proofs.Turns.{turned_none, turned-from}
-use Rattle.digest.proofs.Window.{compression-window}
+use Rattle.digest.proofs.Turns.{turned_none, turned_from}
+use Rattle.digest.proofs.Window.{compression_window}
 use Rattle.sha256.specs.Sha256.{mixed, round}
-use Rattle.sha256.proofs.Schedule.{reads-sixteen}
+use Rattle.sha256.proofs.Schedule.{reads_sixteen}
 use Rattle.sha256.proofs.rounds.compress.Goals as goal
 
 pub returns : goal.returns
 returns c =
     let turn = step round mixed in
     let start : List ℕ × List ℕ = (c.args.h, c.args.words.now) in
-    let by-16 = turned-from turn start 0 16 (turned_none turn start) c.sixteen-rounds-v.ensures in
-    let by-32 = turned-from turn start 16 16 by-16 c.sixteen-rounds-v-2.ensures in
-    let by-48 = turned-from turn start 32 16 by-32 c.sixteen-rounds-v-3.ensures in
-    let by-64 = turned-from turn start 48 16 by-48 c.sixteen-rounds-v-4.ensures in
-    c.add.ensures ∙ compression-window round mixed reads-sixteen 64 c.args.h c.args.words.now (lit≤ tt) c.told-words 8 _ _ by-64
+    let by-16 = turned_from turn start 0 16 (turned_none turn start) c.sixteen-rounds-v.ensures in
+    let by-32 = turned_from turn start 16 16 by-16 c.sixteen-rounds-v-2.ensures in
+    let by-48 = turned_from turn start 32 16 by-32 c.sixteen-rounds-v-3.ensures in
+    let by-64 = turned_from turn start 48 16 by-48 c.sixteen-rounds-v-4.ensures in
+    c.add.ensures ∙ compression_window round mixed reads_sixteen 64 c.args.h c.args.words.now (lit≤ tt) c.told-words 8 _ _ by-64

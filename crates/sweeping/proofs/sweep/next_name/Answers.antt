@@ -1,8 +1,8 @@
 use native.Mathlib.Numerals.{unary_clauses}
-use Rattle.sweeping.proofs.Asking.{length-fits, name-read}
+use Rattle.sweeping.proofs.Asking.{length_fits, name_read}
 use Rattle.sweeping.proofs.sweep.next_name.Goals as goal
 
 pub returns : goal.returns
 returns g c =
     let asked = c.in-ok-len.ensures in
-    name-read (λ a above place s place' b. g.R.Row.nexts a c.args.number above place s place' b) asked (length-fits (g.met.R.Row.nexting _ _ _ _ _ _ _ asked)) c.in-Some.is _ c.as-bytes.ensures _ (simp unary_clauses) c.from-bytes.result c.from-bytes.ensures
+    name_read (λ a above place s place' b. g.R.Row.nexts a c.args.number above place s place' b) asked (length_fits (g.met.R.Row.nexting _ _ _ _ _ _ _ asked)) c.in-Some.is _ c.as-bytes.ensures _ (simp unary_clauses) c.from-bytes.result c.from-bytes.ensures

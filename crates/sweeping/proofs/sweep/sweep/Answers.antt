@@ -1,16 +1,16 @@
 use Rattle.std.proofs.Common.{sym, ap, ◌∙◌}
 use Rattle.row.specs.Rows.{numbered}
 use Rattle.sweeping.specs.Answers.{said}
-use Rattle.sweeping.proofs.Asking.{said-numbered}
-use Rattle.sweeping.proofs.Carried.{swept-meaning}
+use Rattle.sweeping.proofs.Asking.{said_numbered}
+use Rattle.sweeping.proofs.Carried.{swept_meaning}
 use Rattle.sweeping.proofs.sweep.sweep.Goals as goal
 
 pub returns : goal.returns
 returns g c =
     let n = c.args.number in
-    let e = ap said c.at-cloud.ensures ∙ said-numbered n c.sweep-cloud.result in
+    let e = ap said c.at-cloud.ensures ∙ said_numbered n c.sweep-cloud.result in
     record {
       chain = rw e c.sweep-cloud.ensures;
-      meaning = rw e (swept-meaning g.R.Row.clouds n (λ s. g.met.R.Row.nexting s n) (λ s. g.met.R.Row.dropping s n) c.sweep-cloud.ensures);
+      meaning = rw e (swept_meaning g.R.Row.clouds n (λ s. g.met.R.Row.nexting s n) (λ s. g.met.R.Row.dropping s n) c.sweep-cloud.ensures);
       fault = c.at-cloud.ensures ∙ ap (numbered n) (sym e);
     }

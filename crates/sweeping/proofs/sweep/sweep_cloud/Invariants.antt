@@ -1,14 +1,14 @@
 use Rattle.std.proofs.Common.{◌-◌, ◌≤◌}
-use Rattle.naming.specs.Keys.{key-bytes}
-use Rattle.naming.specs.Names.{name-bytes}
-use Rattle.naming.specs.Stamps.{stamp-value}
-use Rattle.protocol.specs.Sweeping.{Going, most-names}
+use Rattle.naming.specs.Keys.{key_bytes}
+use Rattle.naming.specs.Names.{name_bytes}
+use Rattle.naming.specs.Stamps.{stamp_value}
+use Rattle.protocol.specs.Sweeping.{Going, most_names}
 use Rattle.sweeping.proofs.sweep.sweep_cloud.Given as goal
 
 abbrev pub invariant-loop-name : goal.invariant-loop-name
 invariant-loop-name g l =
-    (l.seen ≤ most-names) × (l.dropped ≤ l.seen)
-    × Going (λ a above place s place' b. g.R.Row.nexts a l.number above place s place' b) (λ a name s b. g.R.Row.drops a l.number name s b) (record { container = l.container; key = key-bytes l.key; stamp = stamp-value l.stamp }) l.initial.row l.row (name-bytes l.last) l.seen l.dropped
+    (l.seen ≤ most_names) × (l.dropped ≤ l.seen)
+    × Going (λ a above place s place' b. g.R.Row.nexts a l.number above place s place' b) (λ a name s b. g.R.Row.drops a l.number name s b) (record { container = l.container; key = key_bytes l.key; stamp = stamp_value l.stamp }) l.initial.row l.row (name_bytes l.last) l.seen l.dropped
 
 abbrev pub decreases-loop-name : goal.decreases-loop-name
 decreases-loop-name g l = 65 - l.seen

@@ -1,5 +1,5 @@
 use Rattle.std.proofs.Common.{[], sym, refl, ◌∙◌, arith, length-set}
-use Rattle.cloud_faulty.proofs.Codes.{read_none, read_more, read-refused, read_all}
+use Rattle.cloud_faulty.proofs.Codes.{read_none, read_more, read_refused, read_all}
 use Rattle.cloud_faulty.proofs.script.Script.read.Goals as goal
 
 pub loop-i-init : goal.loop-i-init
@@ -12,7 +12,7 @@ loop-i-preserved c = (
 )
 
 pub returns-in-default : goal.returns-in-default
-returns-in-default c = read-refused c.args.codes.now c.loop-i.i c.loop-i.faults c.loop-i.invariant.1 c.loop-i-test.true (sym c.in-default.ensures)
+returns-in-default c = read_refused c.args.codes.now c.loop-i.i c.loop-i.faults c.loop-i.invariant.1 c.loop-i-test.true (sym c.in-default.ensures)
 
 pub returns : goal.returns
 returns c = read_all c.args.codes.now c.loop-i.i c.loop-i.faults c.loop-i.invariant.1 c.loop-i-test.false (omega arith) c.if-codes-gt-MOST-CODES.false

@@ -1,7 +1,7 @@
 use Rattle.std.proofs.Common.{arith, rules}
 use Rattle.std.proofs.lemmas.Bool.Decides.{nat_tests}
-use Rattle.cloud_fixed.specs.Searched.{empty-meaning}
+use Rattle.cloud_fixed.specs.Searched.{empty_meaning}
 use Rattle.cloud_fixed.proofs.fixed.FixedCloud.new.Goals as goal
 
 pub returns : goal.returns
-returns c = (grind (arith, nat_tests), empty-meaning _ _ (search rules))
+returns c = (grind (arith, nat_tests), empty_meaning _ _ (search rules))

@@ -1,5 +1,5 @@
 use Rattle.std.proofs.Common.{rules}
-use Rattle.bytes.proofs.Order.{above-is-upward-closed}
+use Rattle.byte_strings.proofs.Order.{above_is_upward_closed}
 use Rattle.cloud_log.specs.Index.{name_of}
 use Rattle.cloud_log.proofs.entry.AboveBoundEntry.is_below.Goals as goal
 
@@ -7,5 +7,5 @@ pub returns : goal.returns
 returns c =
     record {
       value = search rules;
-      upward = λ p q. above-is-upward-closed c.args.self.now.bytes.now (name_of p) (name_of q);
+      upward = λ p q. above_is_upward_closed c.args.self.now.bytes.now (name_of p) (name_of q);
     }

@@ -1,9 +1,9 @@
 use Rattle.std.proofs.Common.{◌+◌, ◌≤◌, length, ap, arith, rules}
-use Rattle.cloud_log.specs.Standing.{value-part}
+use Rattle.cloud_log.specs.Standing.{value_part}
 use Rattle.cloud_log.proofs.entry.Entry.value_in.Goals as goal
 
 pub returns : goal.returns
-returns c = value-part c.args.bytes.now c.args.self.now (length c.as-slice.result.now) (ap length c.as-slice.ensures)
+returns c = value_part c.args.bytes.now c.args.self.now (length c.as-slice.result.now) (ap length c.as-slice.ensures)
 
 pub overflow-add-start : goal.overflow-add-start
 overflow-add-start c =

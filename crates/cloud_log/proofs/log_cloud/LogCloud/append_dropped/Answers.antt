@@ -1,5 +1,5 @@
 use Rattle.std.proofs.Common.{Some, vec_items, vec_len, refl, arith}
-use Rattle.cloud_log.specs.State.{placed-within, fewer, dropping, dropping-log, dropping-held, dropping-facts}
+use Rattle.cloud_log.specs.State.{placed_within, fewer, dropping, dropping_log, dropping_held, dropping_facts}
 use Rattle.cloud_log.proofs.log_cloud.LogCloud.append_dropped.Goals as goal
 
 pub unwrap-after-requires : goal.unwrap-after-requires
@@ -8,7 +8,7 @@ unwrap-after-requires c =
 
 pub forget-requires : goal.forget-requires
 forget-requires c =
-    placed-within (vec_items c.args.self.now.index) c.args.name.now (Some c.args.place) (vec_len c.args.self.now.index) c.args.self.now.index.ok.0 c.requires.placed
+    placed_within (vec_items c.args.self.now.index) c.args.name.now (Some c.args.place) (vec_len c.args.self.now.index) c.args.self.now.index.ok.0 c.requires.placed
 
 pub invariant-of-self : goal.invariant-of-self
 invariant-of-self c =
@@ -19,7 +19,7 @@ invariant-of-self c =
         s.room,
         (
           (fewer s c.args.name.now (Some c.args.place) c.requires.placed (vec_items v) (vec_len v) v.ok.0 c.forget.ensures.items, omega (arith, s.reserved, c.forget.ensures.capacity)),
-          dropping-facts s c.args.name.now c.args.place c.requires.placed c.requires.room _ c.write-dropped.new.bytes c.write-dropped.result c.as-mut-slice.ensures.value c.write-dropped.ensures c.unwrap-after.result c.unwrap-after.ensures (vec_items v) c.forget.ensures.items,
+          dropping_facts s c.args.name.now c.args.place c.requires.placed c.requires.room _ c.write-dropped.new.bytes c.write-dropped.result c.as-mut-slice.ensures.value c.write-dropped.ensures c.unwrap-after.result c.unwrap-after.ensures (vec_items v) c.forget.ensures.items,
         ),
       ),
     )
@@ -27,8 +27,8 @@ invariant-of-self c =
 pub returns : goal.returns
 returns c =
     record {
-      log = dropping-log c.args.self.now c.args.name.now c.args.place c.requires.placed c.requires.room _ c.write-dropped.new.bytes c.write-dropped.result c.as-mut-slice.ensures.value c.write-dropped.ensures c.unwrap-after.result c.unwrap-after.ensures;
-      held = dropping-held c.args.self.now c.args.name.now c.args.place c.requires.placed c.requires.room _ c.write-dropped.new.bytes c.write-dropped.result c.as-mut-slice.ensures.value c.write-dropped.ensures c.unwrap-after.result c.unwrap-after.ensures;
+      log = dropping_log c.args.self.now c.args.name.now c.args.place c.requires.placed c.requires.room _ c.write-dropped.new.bytes c.write-dropped.result c.as-mut-slice.ensures.value c.write-dropped.ensures c.unwrap-after.result c.unwrap-after.ensures;
+      held = dropping_held c.args.self.now c.args.name.now c.args.place c.requires.placed c.requires.room _ c.write-dropped.new.bytes c.write-dropped.result c.as-mut-slice.ensures.value c.write-dropped.ensures c.unwrap-after.result c.unwrap-after.ensures;
       places = refl;
       memory = refl;
     }

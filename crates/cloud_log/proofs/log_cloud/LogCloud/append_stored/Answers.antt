@@ -1,5 +1,5 @@
 use Rattle.std.proofs.Common.{length, vec_items, vec_len, refl, arith}
-use Rattle.cloud_log.specs.State.{placed-within, one_more, storing, storing-log, storing-held, storing-facts}
+use Rattle.cloud_log.specs.State.{placed_within, one_more, storing, storing_log, storing_held, storing_facts}
 use Rattle.cloud_log.proofs.log_cloud.LogCloud.append_stored.Goals as goal
 
 pub unwrap-end-requires : goal.unwrap-end-requires
@@ -8,7 +8,7 @@ unwrap-end-requires c =
 
 pub forget-requires : goal.forget-requires
 forget-requires c =
-    placed-within (vec_items c.args.self.now.index) c.args.name.now c.args.place (vec_len c.args.self.now.index) c.args.self.now.index.ok.0 c.requires.placed
+    placed_within (vec_items c.args.self.now.index) c.args.name.now c.args.place (vec_len c.args.self.now.index) c.args.self.now.index.ok.0 c.requires.placed
 
 pub push-reserved-requires : goal.push-reserved-requires
 push-reserved-requires c =
@@ -25,7 +25,7 @@ invariant-of-self c =
         s.room,
         (
           (omega (arith, one_more s c.args.name.now c.args.place c.requires.placed (vec_items v) (vec_len v) v.ok.0 c.forget.ensures.items c.requires.free, c.push-reserved.ensures.len), omega (arith, s.reserved, c.forget.ensures.capacity, c.push-reserved.ensures.capacity)),
-          storing-facts s c.args.name.now c.args.value.now c.args.place c.requires.placed c.requires.short.0 c.requires.short.1 c.requires.room _ c.write-stored.new.bytes c.write-stored.result c.as-mut-slice.ensures.value c.write-stored.ensures.written c.unwrap-end.result c.unwrap-end.ensures
+          storing_facts s c.args.name.now c.args.value.now c.args.place c.requires.placed c.requires.short.0 c.requires.short.1 c.requires.room _ c.write-stored.new.bytes c.write-stored.result c.as-mut-slice.ensures.value c.write-stored.ensures.written c.unwrap-end.result c.unwrap-end.ensures
               (vec_items v) (vec_items c.push-reserved.new.self) (record { name = c.new.result; offset = s.used; size = length c.args.value.now }) c.forget.ensures.items c.push-reserved.ensures.items c.new.ensures refl refl,
         ),
       ),
@@ -34,8 +34,8 @@ invariant-of-self c =
 pub returns : goal.returns
 returns c =
     record {
-      log = storing-log c.args.self.now c.args.name.now c.args.value.now c.args.place c.requires.placed c.requires.short.0 c.requires.short.1 c.requires.room _ c.write-stored.new.bytes c.write-stored.result c.as-mut-slice.ensures.value c.write-stored.ensures.written c.unwrap-end.result c.unwrap-end.ensures;
-      held = storing-held c.args.self.now c.args.name.now c.args.value.now c.args.place c.requires.placed c.requires.short.0 c.requires.short.1 c.requires.room _ c.write-stored.new.bytes c.write-stored.result c.as-mut-slice.ensures.value c.write-stored.ensures.written c.unwrap-end.result c.unwrap-end.ensures;
+      log = storing_log c.args.self.now c.args.name.now c.args.value.now c.args.place c.requires.placed c.requires.short.0 c.requires.short.1 c.requires.room _ c.write-stored.new.bytes c.write-stored.result c.as-mut-slice.ensures.value c.write-stored.ensures.written c.unwrap-end.result c.unwrap-end.ensures;
+      held = storing_held c.args.self.now c.args.name.now c.args.value.now c.args.place c.requires.placed c.requires.short.0 c.requires.short.1 c.requires.room _ c.write-stored.new.bytes c.write-stored.result c.as-mut-slice.ensures.value c.write-stored.ensures.written c.unwrap-end.result c.unwrap-end.ensures;
       places = refl;
       memory = refl;
     }

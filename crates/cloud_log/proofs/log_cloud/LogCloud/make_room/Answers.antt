@@ -1,7 +1,7 @@
 use Rattle.std.proofs.Common.{◌≡◌, true, length, vec_items, sym, refl, subst, arith}
 use Rattle.cloud_log.specs.Index.{laid}
-use Rattle.cloud_log.specs.Standing.{laid-higher}
-use Rattle.cloud_log.specs.State.{room-behind, closed_facts, closed-held, closed-names}
+use Rattle.cloud_log.specs.Standing.{laid_higher}
+use Rattle.cloud_log.specs.State.{room_behind, closed_facts, closed_held, closed_names}
 use Rattle.cloud_log.proofs.log_cloud.LogCloud.make_room.Goals as goal
 
 pub close-up-self-requires : goal.close-up-self-requires
@@ -10,7 +10,7 @@ close-up-self-requires c =
     let b = c.as-mut-slice.result.now in
     let v = c.as-mut-slice.ensures.value in
     let t = subst (λ x. laid x 0 s.used (vec_items s.index) ≡ true) (sym v) s.ordered in
-    let u = laid-higher b 0 s.used (length b) (vec_items s.index) (omega (arith, c.as-mut-slice.ensures.len, s.within)) t in
+    let u = laid_higher b 0 s.used (length b) (vec_items s.index) (omega (arith, c.as-mut-slice.ensures.len, s.within)) t in
     subst (λ x. laid b 0 (length b) x ≡ true) (sym c.as-mut-slice-then-len-self.ensures.value) u
 
 pub invariant-of-self : goal.invariant-of-self
@@ -33,12 +33,12 @@ returns-then-len-self c =
     let ve = c.as-mut-slice-then-len-self.ensures.value in
     let b' = c.close-up-self.new.bytes in
     let es' = c.close-up-self.new.index in
-    let r = room-behind s _ b' _ es' c.close-up-self.result vb ve (omega arith) (omega arith) c.close-up-self.ensures in
+    let r = room_behind s _ b' _ es' c.close-up-self.result vb ve (omega arith) (omega arith) c.close-up-self.ensures in
     record {
       same_memory = refl;
       unmoved = λ h. absurd (omega (arith, h, c.if-len-self.true, c.len.ensures));
-      same-held = closed-held s _ b' _ es' c.close-up-self.result vb ve (omega arith) (omega arith) c.close-up-self.ensures;
-      same_names = closed-names s _ b' _ es' c.close-up-self.result vb ve (omega arith) (omega arith) c.close-up-self.ensures;
+      same-held = closed_held s _ b' _ es' c.close-up-self.result vb ve (omega arith) (omega arith) c.close-up-self.ensures;
+      same_names = closed_names s _ b' _ es' c.close-up-self.result vb ve (omega arith) (omega arith) c.close-up-self.ensures;
       same-places = refl;
       room = omega (arith, r);
     }

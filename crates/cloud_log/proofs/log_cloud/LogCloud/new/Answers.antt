@@ -1,7 +1,7 @@
 use Rattle.std.proofs.Common.{◌≡◌, ◌+◌, ◌*◌, ◌≤◌, true, leb, vec_items, vec_len, vec_capacity, sym, refl, subst, arith}
 use Rattle.std.proofs.lemmas.Bool.{and_parts, leb-true}
 use Rattle.std.proofs.lemmas.Bool.Decides.{nat_tests}
-use Rattle.cloud_log.specs.State.{facts, sound_none, empty-meaning}
+use Rattle.cloud_log.specs.State.{facts, sound_none, empty_meaning}
 use Rattle.cloud_log.specs.Sound.{Sound}
 use Rattle.cloud_log.proofs.log_cloud.LogCloud.new.Goals as goal
 
@@ -21,4 +21,4 @@ invariant-of-result c =
     )
 
 pub returns : goal.returns
-returns c = (grind (arith, nat_tests), empty-meaning c.args.places, refl)
+returns c = (grind (arith, nat_tests), empty_meaning c.args.places, refl)

@@ -1,11 +1,11 @@
 use Rattle.std.proofs.Common.{◌≡◌, ◌<◌, [], length, get_or, vec_items, sym, ap, ◌∙◌, arith}
 use Rattle.std.proofs.lemmas.List.{get_or-map}
 use Rattle.cloud_log.specs.Index.{value_in}
-use Rattle.cloud_log.specs.Calls.{stands-within}
+use Rattle.cloud_log.specs.Calls.{stands_within}
 use Rattle.cloud_log.proofs.log_cloud.LogCloud.value_at.Goals as goal
 
 pub value-in-requires : goal.value-in-requires
-value-in-requires c = stands-within c.args.self.now c.args.place c.index.result.now c.requires c.index.ensures _ c.as-slice.ensures.len
+value-in-requires c = stands_within c.args.self.now c.args.place c.index.result.now c.requires c.index.ensures _ c.as-slice.ensures.len
 
 pub returns : goal.returns
 returns c =

@@ -1,6 +1,6 @@
 use Rattle.std.proofs.Common.{vec_capacity, refl, ap, arith}
-use Rattle.directory_journal.proofs.Capacity.{table-capacity}
-use Rattle.directory_journal.proofs.Survives.{opened-again, commits-survive}
+use Rattle.directory_journal.proofs.Capacity.{table_capacity}
+use Rattle.directory_journal.proofs.Survives.{opened_again, commits_survive}
 use Rattle.directory_journal.proofs.journal.Journal.close.Goals as goal
 
 pub returns : goal.returns
@@ -9,6 +9,6 @@ returns c =
     let room = ap vec_capacity c.into-memory.ensures in
     record {
       bytes = refl;
-      again = opened-again j (vec_capacity c.into-memory.result) (omega (arith, room, table-capacity j.index, j.index.reserved));
-      survive = commits-survive;
+      again = opened_again j (vec_capacity c.into-memory.result) (omega (arith, room, table_capacity j.index, j.index.reserved));
+      survive = commits_survive;
     }

@@ -1,16 +1,16 @@
 use Rattle.std.proofs.Common.{length, ap, append_assoc, arith, rules}
-use Rattle.naming.specs.Keys.{key-bytes}
-use Rattle.naming.proofs.Keys.{key-is-valid, valid-key-high}
+use Rattle.naming.specs.Keys.{key_bytes}
+use Rattle.naming.proofs.Keys.{key_is_valid, valid_key_high}
 use Rattle.journal_record.specs.Layout.{head_of}
 use Rattle.journal_record.specs.Buffer.{buffered}
-use Rattle.journal_record.proofs.Lengths.{front-most}
+use Rattle.journal_record.proofs.Lengths.{front_most}
 use Rattle.journal_record.proofs.record.Record.head.Goals as goal
 
 pub append-requires-4 : goal.append-requires-4
 append-requires-4 c =
     let k = c.key-2.result in
-    let short = valid-key-high (key-bytes k) (key-is-valid k) in
-    let l = front-most (buffered c.empty-buffer.result) (buffered c.append.new.self) (buffered c.append-2.new.self) (buffered c.append-3.new.self) c.map.result c.len.result c.as-bytes.result.now c.to-be-bytes.result
+    let short = valid_key_high (key_bytes k) (key_is_valid k) in
+    let l = front_most (buffered c.empty-buffer.result) (buffered c.append.new.self) (buffered c.append-2.new.self) (buffered c.append-3.new.self) c.map.result c.len.result c.as-bytes.result.now c.to-be-bytes.result
     c.empty-buffer.ensures c.append.ensures c.append-2.ensures c.append-3.ensures (omega (arith, ap length c.as-bytes.ensures, short)) (ap length c.to-be-bytes.ensures) in
     omega (arith, l)
 

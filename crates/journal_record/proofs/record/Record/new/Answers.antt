@@ -1,8 +1,8 @@
 use Rattle.std.proofs.Common.{refl, arith}
-use Rattle.naming.proofs.Keys.{key-is-valid}
-use Rattle.entry.proofs.Valid.{entry-is-valid}
+use Rattle.naming.proofs.Keys.{key_is_valid}
+use Rattle.entry.proofs.Valid.{entry_is_valid}
 use Rattle.journal_record.proofs.record.Record.new.Goals as goal
 
 pub returns : goal.returns
 returns c =
-    record { value = refl; valid = record { container-fits = omega (arith, c.ranges.container.fits); key-valid = key-is-valid c.args.key; entry-valid = entry-is-valid c.args.entry } }
+    record { value = refl; valid = record { container-fits = omega (arith, c.ranges.container.fits); key-valid = key_is_valid c.args.key; entry-valid = entry_is_valid c.args.entry } }

@@ -1,39 +1,39 @@
 use Rattle.std.proofs.Common.{◌≡◌, ◌-◌, ◌≤◌, length, Some, sym, ap, ◌∙◌, arith, rules}
 use Rattle.std.specs.Option.{option_map}
-use Rattle.journal_record.specs.Parse.{fields-of, parse}
-use Rattle.journal_record.proofs.Reading.{parse-short, no_fields, past-limits, within-limits}
-use Rattle.journal_record.proofs.Lengths.{rest-shorter}
-use Rattle.journal_record.proofs.OnlyRecords.{only-records-are-read}
+use Rattle.journal_record.specs.Parse.{fields_of, parse}
+use Rattle.journal_record.proofs.Reading.{parse_short, no_fields, past_limits, within_limits}
+use Rattle.journal_record.proofs.Lengths.{rest_shorter}
+use Rattle.journal_record.proofs.OnlyRecords.{only_records_are_read}
 use Rattle.journal_record.proofs.record.Record.read.Goals as goal
 
 pub returns-in-default : goal.returns-in-default
-returns-in-default c = record { value = search (rules, parse-short); only = only-records-are-read }
+returns-in-default c = record { value = search (rules, parse_short); only = only_records_are_read }
 
 pub returns-in-err-fields : goal.returns-in-err-fields
 returns-in-err-fields c =
     let h : 2 ≤ length c.args.bytes.now = search rules in
     record {
       value = rw c.from-residual.ensures (sym (no_fields c.args.bytes.now h c.in-err-fields.ensures));
-      only = only-records-are-read;
+      only = only_records_are_read;
     }
 
 pub returns-in-err-record : goal.returns-in-err-record
 returns-in-err-record c =
     let h : 2 ≤ length c.args.bytes.now = search rules in
-    let e = past-limits c.args.bytes.now h _ _ c.in-ok-fields.ensures c.in-err-record.ensures in
-    record { value = rw c.from-residual-in-err-record.ensures (sym e); only = only-records-are-read }
+    let e = past_limits c.args.bytes.now h _ _ c.in-ok-fields.ensures c.in-err-record.ensures in
+    record { value = rw c.from-residual-in-err-record.ensures (sym e); only = only_records_are_read }
 
 -- what stands at the front of the bytes
-parsed : (c : goal.In-ok-record) → parse c.args.bytes.now ≡ Some (fields-of c.in-ok-fields.fields, c.in-ok-fields.rest.now)
+parsed : (c : goal.In-ok-record) → parse c.args.bytes.now ≡ Some (fields_of c.in-ok-fields.fields, c.in-ok-fields.rest.now)
 parsed c =
     let h : 2 ≤ length c.args.bytes.now = search rules in
-    within-limits c.args.bytes.now h _ _ c.in-ok-fields.ensures c.in-ok-record.ensures.0
+    within_limits c.args.bytes.now h _ _ c.in-ok-fields.ensures c.in-ok-record.ensures.0
 
 pub overflow-sub-result : goal.overflow-sub-result
-overflow-sub-result c = let l = rest-shorter _ _ _ (parsed c) in omega arith
+overflow-sub-result c = let l = rest_shorter _ _ _ (parsed c) in omega arith
 
 pub returns : goal.returns
 returns c =
     let p = parsed c in
     let e = c.in-ok-record.ensures.1 in
-    record { value = rw (p, e); only = only-records-are-read }
+    record { value = rw (p, e); only = only_records_are_read }

@@ -6,78 +6,78 @@ use Rattle.naming.specs.Names.{name_of}
 use Rattle.protocol.specs.Clouds.{count}
 use Rattle.protocol.specs.Slots.{SavingValue, saving}
 use Rattle.protocol.specs.State.{Setting, State, slot_of}
-use Rattle.protocol.specs.Steps.{saving-of, acknowledged}
-use Rattle.slots.specs.Values.{setting-of, saving-value, slots-value}
-use Rattle.locker.specs.Held.{state-of, said}
-use Rattle.locker.proofs.Grounds.{known-party, store-not-saving}
-use Rattle.locker.proofs.Storing.{done-by, kept_by, fault-is, store-judged, store-allowed, save-there, one_more, store-refused, store-failed, store-done}
+use Rattle.protocol.specs.Steps.{saving_of, acknowledged}
+use Rattle.slots.specs.Values.{setting_of, saving_value, slots_value}
+use Rattle.locker.specs.Held.{state_of, said}
+use Rattle.locker.proofs.Grounds.{known_party, store_not_saving}
+use Rattle.locker.proofs.Storing.{done_by, kept_by, fault_is, store_judged, store_allowed, save_there, one_more, store_refused, store_failed, store_done}
 use Rattle.locker.proofs.locker.Locker.store.Goals as goal
 
 pub returns-in-err-judge : goal.returns-in-err-judge
 returns-in-err-judge g c =
-    let S : Setting = setting-of g.K.DigestKind.digested c.args.self.now.limits in
-    let s : State = state-of (g.D.Directory.meaning c.args.self.now.directory) (g.R.Row.clouds c.args.self.now.row) c.args.self.now.slots in
-    let judged = store-judged S s c.args.party c.in-ok-party.party.number c.args.cloud c.args.value.now c.is-begun-begun.result c.in-ok-party.ensures c.in-ok-check-value.ensures c.in-ok-check-cloud.ensures c.is-begun-begun.ensures _ c.in-err-judge.ensures in
-    record { step = store-refused S s c.args.party c.args.cloud c.args.value.now _ _ judged (search rules); row = kept_by _ _ _ _ judged refl; limits = refl }
+    let S : Setting = setting_of g.K.DigestKind.digested c.args.self.now.limits in
+    let s : State = state_of (g.D.Directory.meaning c.args.self.now.directory) (g.R.Row.clouds c.args.self.now.row) c.args.self.now.slots in
+    let judged = store_judged S s c.args.party c.in-ok-party.party.number c.args.cloud c.args.value.now c.is-begun-begun.result c.in-ok-party.ensures c.in-ok-check-value.ensures c.in-ok-check-cloud.ensures c.is-begun-begun.ensures _ c.in-err-judge.ensures in
+    record { step = store_refused S s c.args.party c.args.cloud c.args.value.now _ _ judged (search rules); row = kept_by _ _ _ _ judged refl; limits = refl }
 
 pub returns-in-err-put-at : goal.returns-in-err-put-at
 returns-in-err-put-at g c =
-    let S : Setting = setting-of g.K.DigestKind.digested c.args.self.now.limits in
-    let s : State = state-of (g.D.Directory.meaning c.args.self.now.directory) (g.R.Row.clouds c.args.self.now.row) c.args.self.now.slots in
+    let S : Setting = setting_of g.K.DigestKind.digested c.args.self.now.limits in
+    let s : State = state_of (g.D.Directory.meaning c.args.self.now.directory) (g.R.Row.clouds c.args.self.now.row) c.args.self.now.slots in
     let p = c.args.party in
     let n = c.in-ok-party.party.number in
     let i = c.args.cloud in
     let v = c.args.value.now in
     let row = c.args.self.now.row in
     let row' = c.put-at.new.row in
-    let allowed = store-allowed S s p n i v c.is-begun-begun.result c.in-ok-party.ensures c.in-ok-check-value.ensures c.in-ok-check-cloud.ensures c.is-begun-begun.ensures c.in-ok-judge.ensures in
-    let there = save-there s p n (saving-value c.in-ok-saving.saving) (known-party p n c.in-ok-party.ensures).1 c.in-ok-saving.ensures in
-    let x : SavingValue = saving-of (slot_of s p) in
+    let allowed = store_allowed S s p n i v c.is-begun-begun.result c.in-ok-party.ensures c.in-ok-check-value.ensures c.in-ok-check-cloud.ensures c.is-begun-begun.ensures c.in-ok-judge.ensures in
+    let there = save_there s p n (saving_value c.in-ok-saving.saving) (known_party p n c.in-ok-party.ensures).1 c.in-ok-saving.ensures in
+    let x : SavingValue = saving_of (slot_of s p) in
     let name : List ℕ = name_of x.container x.key x.stamp in
     let bytes = ap (λ (y : SavingValue). name_of y.container y.key y.stamp) there in
     let fault : CloudFault = c.in-err-put-at.field-0.0 in
     let met = c.in-err-put-at.ensures in
-    let at = (fault-is i (Err fault.cause) fault met.fault).1 in
+    let at = (fault_is i (Err fault.cause) fault met.fault).1 in
     let told : c.from-residual-in-err-put-at.result ≡ Err (CloudRefused fault) = search rules in
     let asked : g.R.Row.puts row i name v (Err fault.cause) row' = subst (λ (m : List ℕ). g.R.Row.puts row i m v (Err fault.cause) row') bytes met.asked in
     record {
-      step = store-failed S s p i v (g.R.Row.clouds row') allowed _ fault at told (g.met.R.Row.putting row i name v (Err fault.cause) row' asked);
-      row = done-by _ _ _ allowed (subst (λ (r : Result ℕ Refusal). g.R.Row.puts row i name v (said r) row') (sym told) asked);
+      step = store_failed S s p i v (g.R.Row.clouds row') allowed _ fault at told (g.met.R.Row.putting row i name v (Err fault.cause) row' asked);
+      row = done_by _ _ _ allowed (subst (λ (r : Result ℕ Refusal). g.R.Row.puts row i name v (said r) row') (sym told) asked);
       limits = refl;
     }
 
 pub returns : goal.returns
 returns g c =
-    let S : Setting = setting-of g.K.DigestKind.digested c.args.self.now.limits in
-    let s : State = state-of (g.D.Directory.meaning c.args.self.now.directory) (g.R.Row.clouds c.args.self.now.row) c.args.self.now.slots in
+    let S : Setting = setting_of g.K.DigestKind.digested c.args.self.now.limits in
+    let s : State = state_of (g.D.Directory.meaning c.args.self.now.directory) (g.R.Row.clouds c.args.self.now.row) c.args.self.now.slots in
     let p = c.args.party in
     let n = c.in-ok-party.party.number in
     let i = c.args.cloud in
     let v = c.args.value.now in
     let row = c.args.self.now.row in
     let row' = c.put-at.new.row in
-    let allowed = store-allowed S s p n i v c.is-begun-begun.result c.in-ok-party.ensures c.in-ok-check-value.ensures c.in-ok-check-cloud.ensures c.is-begun-begun.ensures c.in-ok-judge.ensures in
-    let known = known-party p n c.in-ok-party.ensures in
-    let there = save-there s p n (saving-value c.in-ok-saving.saving) known.1 c.in-ok-saving.ensures in
-    let x : SavingValue = saving-of (slot_of s p) in
+    let allowed = store_allowed S s p n i v c.is-begun-begun.result c.in-ok-party.ensures c.in-ok-check-value.ensures c.in-ok-check-cloud.ensures c.is-begun-begun.ensures c.in-ok-judge.ensures in
+    let known = known_party p n c.in-ok-party.ensures in
+    let there = save_there s p n (saving_value c.in-ok-saving.saving) known.1 c.in-ok-saving.ensures in
+    let x : SavingValue = saving_of (slot_of s p) in
     let name : List ℕ = name_of x.container x.key x.stamp in
     let bytes = ap (λ (y : SavingValue). name_of y.container y.key y.stamp) there in
     let asked : g.R.Row.puts row i name v (Ok tt) row' = subst (λ (m : List ℕ). g.R.Row.puts row i m v (Ok tt) row') bytes c.in-ok-put-at.ensures.asked in
-    let more = one_more (saving-value c.in-ok-saving.saving) x i c.args.self.now.limits.clouds c.args.self.now.limits.most c.in-ok-check-cloud.ensures there in
-    let stored : saving-value c.acknowledged-saving.result ≡ acknowledged x i = c.acknowledged-saving.ensures ∙ more in
+    let more = one_more (saving_value c.in-ok-saving.saving) x i c.args.self.now.limits.clouds c.args.self.now.limits.most c.in-ok-check-cloud.ensures there in
+    let stored : saving_value c.acknowledged-saving.result ≡ acknowledged x i = c.acknowledged-saving.ensures ∙ more in
     record {
-      step = store-done S s p i v (g.R.Row.clouds row') allowed c.count.result (slots-value c.turn.new.self)
+      step = store_done S s p i v (g.R.Row.clouds row') allowed c.count.result (slots_value c.turn.new.self)
           (c.count.ensures ∙ ap (λ (y : SavingValue). count y.stored) stored)
           (c.turn.ensures ∙ ap (λ (y : SavingValue). set s.slots (n - 1) (saving y)) stored ∙ ap (λ (k : ℕ). set s.slots (k - 1) (saving (acknowledged x i))) known.1)
           (g.met.R.Row.putting row i name v (Ok tt) row' asked);
-      row = done-by _ _ _ allowed asked;
+      row = done_by _ _ _ allowed asked;
       limits = refl;
     }
 
 pub returns-in-err-saving : goal.returns-in-err-saving
 returns-in-err-saving g c =
-    let S : Setting = setting-of g.K.DigestKind.digested c.args.self.now.limits in
-    let s : State = state-of (g.D.Directory.meaning c.args.self.now.directory) (g.R.Row.clouds c.args.self.now.row) c.args.self.now.slots in
+    let S : Setting = setting_of g.K.DigestKind.digested c.args.self.now.limits in
+    let s : State = state_of (g.D.Directory.meaning c.args.self.now.directory) (g.R.Row.clouds c.args.self.now.row) c.args.self.now.slots in
     let e = c.in-err-saving.field-0.0 in
-    let ground = store-not-saving S s c.args.party c.in-ok-party.party.number e c.in-ok-party.ensures c.args.cloud c.in-ok-check-cloud.ensures c.args.value.now _ c.in-ok-check-value.ensures c.in-err-saving.ensures in
-    record { step = store-refused S s c.args.party c.args.cloud c.args.value.now _ e ground (search rules); row = kept_by _ _ _ _ ground refl; limits = refl }
+    let ground = store_not_saving S s c.args.party c.in-ok-party.party.number e c.in-ok-party.ensures c.args.cloud c.in-ok-check-cloud.ensures c.args.value.now _ c.in-ok-check-value.ensures c.in-err-saving.ensures in
+    record { step = store_refused S s c.args.party c.args.cloud c.args.value.now _ e ground (search rules); row = kept_by _ _ _ _ ground refl; limits = refl }

@@ -1,7 +1,7 @@
 use Rattle.std.proofs.Common.{◌+◌, ◌≤◌, length, arith}
-use Rattle.naming.specs.Limits.{longest-name}
-use Rattle.naming.proofs.Names.{length-name-bytes}
-use Rattle.naming.proofs.Padding.{written-front, written-rest, written-length}
+use Rattle.naming.specs.Limits.{longest_name}
+use Rattle.naming.proofs.Names.{length_name_bytes}
+use Rattle.naming.proofs.Padding.{written_front, written_rest, written_length}
 use Rattle.naming.proofs.name.Name.append.Goals as goal
 
 pub invariant-of-self : goal.invariant-of-self
@@ -9,11 +9,11 @@ invariant-of-self c =
     let n = c.args.self.now in
     let bs = c.args.bytes.now in
     let out = c.overwrite.new.buffer in
-    let fits : n.len + length bs ≤ longest-name = omega (arith, length-name-bytes n, c.requires) in (
+    let fits : n.len + length bs ≤ longest_name = omega (arith, length_name_bytes n, c.requires) in (
       fits,
       (
-        written-length longest-name n.len n.bytes bs out fits n.size n.padded c.overwrite.ensures,
-        (written-rest longest-name n.len n.bytes bs out fits n.size n.padded c.overwrite.ensures, tt),
+        written_length longest_name n.len n.bytes bs out fits n.size n.padded c.overwrite.ensures,
+        (written_rest longest_name n.len n.bytes bs out fits n.size n.padded c.overwrite.ensures, tt),
       ),
     )
 
@@ -21,5 +21,5 @@ pub returns : goal.returns
 returns c =
     let n = c.args.self.now in
     let bs = c.args.bytes.now in
-    let fits : n.len + length bs ≤ longest-name = omega (arith, length-name-bytes n, c.requires) in
-    written-front longest-name n.len n.bytes bs c.overwrite.new.buffer fits n.size n.padded c.overwrite.ensures
+    let fits : n.len + length bs ≤ longest_name = omega (arith, length_name_bytes n, c.requires) in
+    written_front longest_name n.len n.bytes bs c.overwrite.new.buffer fits n.size n.padded c.overwrite.ensures

@@ -1,20 +1,20 @@
 use Rattle.std.proofs.Common.{sym, ap, ◌∙◌}
 use Rattle.std.proofs.lemmas.Bool.{false≢true}
-use Rattle.naming.specs.Keys.{key-bytes}
-use Rattle.naming.specs.Stamps.{stamp-value}
+use Rattle.naming.specs.Keys.{key_bytes}
+use Rattle.naming.specs.Stamps.{stamp_value}
 use Rattle.naming.specs.Names.{name_of}
-use Rattle.naming.proofs.Stamps.{stamp-is-valid}
+use Rattle.naming.proofs.Stamps.{stamp_is_valid}
 use Rattle.naming.proofs.name.Name.is_of.Goals as goal
 
 pub returns-in-default : goal.returns-in-default
 returns-in-default c =
-    (λ p. absurd (false≢true p), (λ named. absurd (c.in-default.ensures c.args.container (key-bytes c.args.key.now) named)))
+    (λ p. absurd (false≢true p), (λ named. absurd (c.in-default.ensures c.args.container (key_bytes c.args.key.now) named)))
 
 pub returns : goal.returns
 returns c =
-    let k = key-bytes c.args.key.now in
+    let k = key_bytes c.args.key.now in
     let t = c.in-Some.stamp in
     let made = c.as-bytes.ensures ∙ c.new.ensures.value in (
-      (λ p. (stamp-value t, stamp-is-valid t, c.is-same.ensures.0 p ∙ made)),
+      (λ p. (stamp_value t, stamp_is_valid t, c.is-same.ensures.0 p ∙ made)),
       (λ named. c.is-same.ensures.1 (named.2 ∙ ap (name_of c.args.container k) (c.in-Some.ensures c.args.container k named.0 named.1 named.2) ∙ sym made)),
     )

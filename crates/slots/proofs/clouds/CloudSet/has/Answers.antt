@@ -1,7 +1,7 @@
 use Rattle.std.proofs.Common.{◌/◌, ◌^◌, eqb, sym, ap, ◌∙◌}
 use Rattle.std.proofs.lemmas.Nat.{and_mask}
 use Rattle.std.proofs.lemmas.Bool.{le-ltb}
-use Rattle.entry.proofs.Lists.{past-the-list}
+use Rattle.entry.proofs.Lists.{past_the_list}
 use Rattle.slots.proofs.clouds.CloudSet.has.Goals as goal
 
 pub returns-then-cloud-lt-BITS : goal.returns-then-cloud-lt-BITS
@@ -10,4 +10,4 @@ returns-then-cloud-lt-BITS c = ap (λ b. eqb b 1) (and_mask (c.args.self.now.bit
 pub returns-else-cloud-lt-BITS : goal.returns-else-cloud-lt-BITS
 returns-else-cloud-lt-BITS c =
     le-ltb c.args.cloud 8 c.if-cloud-lt-BITS.false
-    ∙ sym (past-the-list c.args.self.now.bits c.args.cloud c.args.self.now.few c.if-cloud-lt-BITS.false)
+    ∙ sym (past_the_list c.args.self.now.bits c.args.cloud c.args.self.now.few c.if-cloud-lt-BITS.false)

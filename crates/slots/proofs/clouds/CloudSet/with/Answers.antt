@@ -1,14 +1,14 @@
 use Rattle.std.proofs.Common.{◌≡◌, true, cond, ltb, sym, ap, ◌∙◌, arith}
 use Rattle.std.proofs.lemmas.Bool.{lt-ltb}
-use Rattle.protocol.specs.Clouds.{with-cloud}
-use Rattle.slots.proofs.Sets.{with-few, with-is}
+use Rattle.protocol.specs.Clouds.{with_cloud}
+use Rattle.slots.proofs.Sets.{with_few, with_is}
 use Rattle.slots.proofs.clouds.CloudSet.with.Goals as goal
 
 pub invariant-of-result : goal.invariant-of-result
-invariant-of-result c = (with-few c.args.self.now.bits c.args.cloud c.args.self.now.few (omega arith), tt)
+invariant-of-result c = (with_few c.args.self.now.bits c.args.cloud c.args.self.now.few (omega arith), tt)
 
 pub returns : goal.returns
 returns c =
     let small : ltb c.args.cloud 7 ≡ true = lt-ltb c.args.cloud 7 (omega arith) in
-    with-is c.args.self.now.bits c.args.cloud (omega arith)
-    ∙ sym (ap (λ b. cond b (with-cloud c.args.self.now.bits c.args.cloud) c.args.self.now.bits) small)
+    with_is c.args.self.now.bits c.args.cloud (omega arith)
+    ∙ sym (ap (λ b. cond b (with_cloud c.args.self.now.bits c.args.cloud) c.args.self.now.bits) small)

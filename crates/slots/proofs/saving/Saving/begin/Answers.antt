@@ -1,5 +1,5 @@
 use Rattle.std.proofs.Common.{◌≡◌, ℕ, true, List, sym, subst, arith}
-use Rattle.entry.specs.Bytes.{digest-fits}
+use Rattle.entry.specs.Bytes.{digest_fits}
 use Rattle.slots.proofs.Digests.{kind_fits}
 use Rattle.slots.proofs.saving.Saving.begin.Goals as goal
 
@@ -8,4 +8,4 @@ invariant-of-result g c =
     let kind = g.met.K.DigestKind in
     let value = c.args.value.now in
     let fits = kind_fits (g.K.DigestKind.digested value) g.K.DigestKind.width kind.widths (kind.wide value) (kind.bytes value) in
-    (omega arith, (omega arith, (omega arith, (subst (λ (d : List ℕ). digest-fits d ≡ true) (sym c.of-digest.ensures) fits, tt))))
+    (omega arith, (omega arith, (omega arith, (subst (λ (d : List ℕ). digest_fits d ≡ true) (sym c.of-digest.ensures) fits, tt))))

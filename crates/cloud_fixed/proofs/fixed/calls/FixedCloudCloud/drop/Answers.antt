@@ -1,5 +1,5 @@
 use Rattle.std.proofs.Common.{arith}
-use Rattle.cloud_fixed.proofs.Effects.{undropped, dropped, dropped-different}
+use Rattle.cloud_fixed.proofs.Effects.{undropped, dropped, dropped_different}
 use Rattle.cloud_fixed.proofs.fixed.calls.FixedCloudCloud.drop.Goals as goal
 
 pub returns-in-default : goal.returns-in-default
@@ -8,7 +8,7 @@ returns-in-default c = undropped _ _ _ _ c.deref.ensures.value c.in-default.ensu
 pub invariant-of-self : goal.invariant-of-self
 invariant-of-self c =
     let s = c.args.self.now in (
-      dropped-different _ s.limit _ _ c.deref.ensures.value s.distinct c.in-Some.i c.in-Some.ensures c.remove.result c.remove.ensures.value _ c.remove.ensures.items,
+      dropped_different _ s.limit _ _ c.deref.ensures.value s.distinct c.in-Some.i c.in-Some.ensures c.remove.result c.remove.ensures.value _ c.remove.ensures.items,
       (omega arith, (omega arith, (s.some, (s.few, tt)))),
     )
 

@@ -1,6 +1,6 @@
 use Rattle.std.proofs.Common.{length, ap, ◌∙◌, arith}
 use Rattle.cloud.specs.Outcomes.{over}
-use Rattle.cloud_fixed.specs.Searched.{name-short}
+use Rattle.cloud_fixed.specs.Searched.{name_short}
 use Rattle.cloud_fixed.proofs.Effects.{no_more, one_more}
 use Rattle.cloud_fixed.proofs.fixed.calls.FixedCloudCloud.next.Goals as goal
 
@@ -8,7 +8,7 @@ pub returns-in-default : goal.returns-in-default
 returns-in-default c = no_more _ _ _ _ _ c.deref.ensures.value c.in-default.ensures
 
 pub write-front-requires : goal.write-front-requires
-write-front-requires c = omega (arith, c.told-place, name-short c.index.result.now, ap length c.name-name.ensures)
+write-front-requires c = omega (arith, c.told-place, name_short c.index.result.now, ap length c.name-name.ensures)
 
 pub returns : goal.returns
 returns c =

@@ -1,16 +1,16 @@
 use Rattle.std.proofs.Common.{inl, inr, arith}
-use Rattle.cloud_fixed.proofs.Outcomes.{put-too-long}
-use Rattle.cloud_fixed.proofs.Effects.{full, added, added-different, replaced, replaced-different}
+use Rattle.cloud_fixed.proofs.Outcomes.{put_too_long}
+use Rattle.cloud_fixed.proofs.Effects.{full, added, added_different, replaced, replaced_different}
 use Rattle.cloud_fixed.proofs.fixed.calls.FixedCloudCloud.put.Goals as goal
 
 pub returns-then-name-gt-LONGEST-NAME : goal.returns-then-name-gt-LONGEST-NAME
 returns-then-name-gt-LONGEST-NAME c =
-    put-too-long _ _ _ _ (elim c.then-name-gt-LONGEST-NAME.either [ inl h ↦ inl h | inr h ↦ inr h.1 ])
+    put_too_long _ _ _ _ (elim c.then-name-gt-LONGEST-NAME.either [ inl h ↦ inl h | inr h ↦ inr h.1 ])
 
 pub invariant-of-self : goal.invariant-of-self
 invariant-of-self c =
     let s = c.args.self.now in (
-      replaced-different _ s.limit _ _ c.deref.ensures.value s.distinct c.in-Some.i c.in-Some.ensures c.index-mut.result.now c.index-mut.ensures.value _ c.new.result c.new.ensures,
+      replaced_different _ s.limit _ _ c.deref.ensures.value s.distinct c.in-Some.i c.in-Some.ensures c.index-mut.result.now c.index-mut.ensures.value _ c.new.result c.new.ensures,
       (s.used, (s.reserved, (s.some, (s.few, tt)))),
     )
 
@@ -27,7 +27,7 @@ returns-then-len-self c =
 pub invariant-of-self-2 : goal.invariant-of-self-2
 invariant-of-self-2 c =
     let s = c.args.self.now in (
-      added-different _ s.limit _ _ c.deref.ensures.value c.in-default.ensures s.distinct _ c.new-2.result c.new-2.ensures _ c.push-reserved.ensures.items,
+      added_different _ s.limit _ _ c.deref.ensures.value c.in-default.ensures s.distinct _ c.new-2.result c.new-2.ensures _ c.push-reserved.ensures.items,
       (omega arith, (omega arith, (s.some, (s.few, tt)))),
     )
 

@@ -1,22 +1,22 @@
 use Rattle.std.proofs.Common.{refl, ap, ◌∙◌, arith}
 use Rattle.bytemap.specs.Map.{remove}
 use Rattle.log_record.specs.Records.{dropped}
-use Rattle.log_record.proofs.ReadBack.{length-dropped}
-use Rattle.cloud_log.specs.Meaning.{log-meaning}
-use Rattle.cloud_log.specs.State.{placed-short}
-use Rattle.cloud.proofs.Outcomes.{drop-missing}
-use Rattle.cloud_log.specs.Calls.{not-held, drop-ok, still-logged}
+use Rattle.log_record.proofs.ReadBack.{length_dropped}
+use Rattle.cloud_log.specs.Meaning.{log_meaning}
+use Rattle.cloud_log.specs.State.{placed_short}
+use Rattle.cloud.proofs.Outcomes.{drop_missing}
+use Rattle.cloud_log.specs.Calls.{not_held, drop_ok, still_logged}
 use Rattle.cloud_log.proofs.log_cloud.calls.LogCloudCloud.drop.Goals as goal
 
 pub returns-in-default : goal.returns-in-default
 returns-in-default c =
     record {
-      outcome = drop-missing (log-meaning c.args.self.now).held (log-meaning c.args.self.now).free c.args.name.now (not-held c.args.self.now c.args.name.now _ c.as-slice.ensures.value c.in-default.ensures);
+      outcome = drop_missing (log_meaning c.args.self.now).held (log_meaning c.args.self.now).free c.args.name.now (not_held c.args.self.now c.args.name.now _ c.as-slice.ensures.value c.in-default.ensures);
       logged = record { same_memory = refl; appended = refl };
     }
 
 pub make-room-requires : goal.make-room-requires
-make-room-requires c = omega (arith, placed-short c.as-slice.result.now c.args.name.now c.in-Some.place c.in-Some.ensures)
+make-room-requires c = omega (arith, placed_short c.as-slice.result.now c.args.name.now c.in-Some.place c.in-Some.ensures)
 
 pub returns : goal.returns
 returns c =
@@ -24,8 +24,8 @@ returns c =
     let n = c.args.name.now in
     record {
       outcome =
-          drop-ok s n _ c.as-slice.ensures.value c.in-Some.place c.in-Some.ensures c.append-dropped.new.self
-          (c.append-dropped.ensures.held ∙ ap (λ m. remove m n) c.make-room.ensures.same-held)
-          (c.append-dropped.ensures.places ∙ c.make-room.ensures.same-places);
-      logged = still-logged s c.make-room.new.self c.append-dropped.new.self _ c.make-room.ensures (dropped n) (length-dropped n) c.append-dropped.ensures.memory c.append-dropped.ensures.log;
+          drop_ok s n _ c.as-slice.ensures.value c.in-Some.place c.in-Some.ensures c.append-dropped.new.self
+          (c.append-dropped.ensures.held ∙ ap (λ m. remove m n) c.make-room.ensures.same_held)
+          (c.append-dropped.ensures.places ∙ c.make-room.ensures.same_places);
+      logged = still_logged s c.make-room.new.self c.append-dropped.new.self _ c.make-room.ensures (dropped n) (length_dropped n) c.append-dropped.ensures.memory c.append-dropped.ensures.log;
     }

@@ -1,24 +1,24 @@
 use Rattle.std.proofs.Common.{◌≡◌, length, get_or, sym, ap, ◌∙◌, arith}
 use Rattle.cloud.specs.Outcomes.{over}
 use Rattle.cloud_log.specs.Index.{name_of}
-use Rattle.cloud_log.specs.Meaning.{log-meaning}
-use Rattle.cloud_log.specs.Standing.{name-short}
-use Rattle.cloud.proofs.Outcomes.{next-end, next-found}
-use Rattle.cloud_log.specs.Calls.{no-next, next-at}
+use Rattle.cloud_log.specs.Meaning.{log_meaning}
+use Rattle.cloud_log.specs.Standing.{name_short}
+use Rattle.cloud.proofs.Outcomes.{next_end, next_found}
+use Rattle.cloud_log.specs.Calls.{no_next, next_at}
 use Rattle.cloud_log.proofs.log_cloud.calls.LogCloudCloud.next.Goals as goal
 
 pub returns-in-default : goal.returns-in-default
 returns-in-default c =
-    next-end (log-meaning c.args.self.now).held (log-meaning c.args.self.now).free c.args.above.now c.args.place.now
-    (no-next c.args.self.now c.as-slice.result.now c.as-slice.ensures.value c.args.above.now c.in-default.ensures)
+    next_end (log_meaning c.args.self.now).held (log_meaning c.args.self.now).free c.args.above.now c.args.place.now
+    (no_next c.args.self.now c.as-slice.result.now c.as-slice.ensures.value c.args.above.now c.in-default.ensures)
 
 pub write-front-requires : goal.write-front-requires
-write-front-requires c = omega (arith, ap length c.as-slice-name.ensures, name-short c.index.result.now)
+write-front-requires c = omega (arith, ap length c.as-slice-name.ensures, name_short c.index.result.now)
 
 pub returns : goal.returns
 returns c =
     let e = c.index.result.now in
     let is : e ≡ get_or c.as-slice.result.now c.in-Some.i e = c.index.ensures ∙ ap (λ x. get_or x c.in-Some.i e) (sym c.as-slice.ensures.value) in
-    next-found (log-meaning c.args.self.now).held (log-meaning c.args.self.now).free c.args.above.now c.args.place.now (name_of e)
-    (next-at c.args.self.now c.as-slice.result.now c.as-slice.ensures.value c.args.above.now c.in-Some.i e c.in-Some.ensures is)
-    (name-short e) _ c.write-front.new.part (ap length c.as-slice-name.ensures) (c.write-front.ensures ∙ ap (λ x. over x c.args.place.now) c.as-slice-name.ensures)
+    next_found (log_meaning c.args.self.now).held (log_meaning c.args.self.now).free c.args.above.now c.args.place.now (name_of e)
+    (next_at c.args.self.now c.as-slice.result.now c.as-slice.ensures.value c.args.above.now c.in-Some.i e c.in-Some.ensures is)
+    (name_short e) _ c.write-front.new.part (ap length c.as-slice-name.ensures) (c.write-front.ensures ∙ ap (λ x. over x c.args.place.now) c.as-slice-name.ensures)

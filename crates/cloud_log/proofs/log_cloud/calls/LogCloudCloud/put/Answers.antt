@@ -1,16 +1,16 @@
 use Rattle.std.proofs.Common.{sym, refl, ap, ◌∙◌, inl, inr, arith}
 use Rattle.bytemap.specs.Map.{insert}
 use Rattle.log_record.specs.Records.{stored}
-use Rattle.log_record.proofs.ReadBack.{length-stored}
-use Rattle.cloud_log.specs.Meaning.{log-meaning}
-use Rattle.cloud.proofs.Outcomes.{put-too-long}
-use Rattle.cloud_log.specs.Calls.{full, still_placed, still-place, put-ok, still-logged}
+use Rattle.log_record.proofs.ReadBack.{length_stored}
+use Rattle.cloud_log.specs.Meaning.{log_meaning}
+use Rattle.cloud.proofs.Outcomes.{put_too_long}
+use Rattle.cloud_log.specs.Calls.{full, still_placed, still_place, put_ok, still_logged}
 use Rattle.cloud_log.proofs.log_cloud.calls.LogCloudCloud.put.Goals as goal
 
 pub returns-then-name-gt-LONGEST-NAME : goal.returns-then-name-gt-LONGEST-NAME
 returns-then-name-gt-LONGEST-NAME c =
     record {
-      outcome = put-too-long (log-meaning c.args.self.now).held (log-meaning c.args.self.now).free c.args.name.now c.args.value.now (elim c.then-name-gt-LONGEST-NAME.either [ inl h ↦ inl h | inr h ↦ inr h.1 ]);
+      outcome = put_too_long (log_meaning c.args.self.now).held (log_meaning c.args.self.now).free c.args.name.now c.args.value.now (elim c.then-name-gt-LONGEST-NAME.either [ inl h ↦ inl h | inr h ↦ inr h.1 ]);
       logged = record { same_memory = refl; appended = refl };
     }
 
@@ -30,7 +30,7 @@ append-stored-requires c =
     record {
       placed = still_placed s s' _ c.make-room.ensures c.args.name.now c.as-slice.result.now c.as-slice.ensures.value c.position-place.result c.position-place.ensures;
       short = (c.if-name-gt-LONGEST-NAME.false, c.if-value-gt-LONGEST-VALUE.false);
-      free = still-place s s' _ c.make-room.ensures c.args.name.now c.as-slice.result.now c.as-slice.ensures.value c.position-place.result (sym c.if-not-has-place.ensures);
+      free = still_place s s' _ c.make-room.ensures c.args.name.now c.as-slice.result.now c.as-slice.ensures.value c.position-place.result (sym c.if-not-has-place.ensures);
       room = c.make-room.ensures.room;
     }
 
@@ -41,9 +41,9 @@ returns c =
     let v = c.args.value.now in
     record {
       outcome =
-          put-ok s n v c.if-name-gt-LONGEST-NAME.false c.if-value-gt-LONGEST-VALUE.false c.as-slice.result.now c.as-slice.ensures.value c.position-place.result c.position-place.ensures (sym c.if-not-has-place.ensures)
+          put_ok s n v c.if-name-gt-LONGEST-NAME.false c.if-value-gt-LONGEST-VALUE.false c.as-slice.result.now c.as-slice.ensures.value c.position-place.result c.position-place.ensures (sym c.if-not-has-place.ensures)
           c.append-stored.new.self
-          (c.append-stored.ensures.held ∙ ap (λ m. insert m n v) c.make-room.ensures.same-held)
-          (c.append-stored.ensures.places ∙ c.make-room.ensures.same-places);
-      logged = still-logged s c.make-room.new.self c.append-stored.new.self _ c.make-room.ensures (stored n v) (length-stored n v) c.append-stored.ensures.memory c.append-stored.ensures.log;
+          (c.append-stored.ensures.held ∙ ap (λ m. insert m n v) c.make-room.ensures.same_held)
+          (c.append-stored.ensures.places ∙ c.make-room.ensures.same_places);
+      logged = still_logged s c.make-room.new.self c.append-stored.new.self _ c.make-room.ensures (stored n v) (length_stored n v) c.append-stored.ensures.memory c.append-stored.ensures.log;
     }

@@ -1,8 +1,8 @@
 use Rattle.std.proofs.Common.{◌≡◌, ◌-◌, ◌<◌, length, sym, ◌∙◌, arith}
 use Rattle.entry.specs.Entries.{entry_value}
-use Rattle.directory_table.specs.Making.{table-entries}
-use Rattle.directory_table.proofs.Outcomes.{room-for-new}
-use Rattle.directory_table.proofs.Effects.{not-added, added, added-different, not-replaced, replaced, replaced-different}
+use Rattle.directory_table.specs.Making.{table_entries}
+use Rattle.directory_table.proofs.Outcomes.{room_for_new}
+use Rattle.directory_table.proofs.Effects.{not_added, added, added_different, not_replaced, replaced, replaced_different}
 use Rattle.directory_table.proofs.table.calls.TableDirectory.commit.Goals as goal
 
 -- ---- a new key
@@ -10,23 +10,23 @@ use Rattle.directory_table.proofs.table.calls.TableDirectory.commit.Goals as goa
 pub invariant-of-self : goal.invariant-of-self
 invariant-of-self c =
     let s = c.args.self.now in
-    let room = room-for-new _ (entry_value c.args.entry.now) (sym c.commit-answer-answer.ensures ∙ c.in-Committed.is) in (
-      added-different _ s.places _ _ _ c.deref.ensures.value c.in-default.ensures s.distinct _ c.new-keyed.result c.new-keyed.ensures _ c.push-reserved.ensures.items,
+    let room = room_for_new _ (entry_value c.args.entry.now) (sym c.commit-answer-answer.ensures ∙ c.in-Committed.is) in (
+      added_different _ s.places _ _ _ c.deref.ensures.value c.in-default.ensures s.distinct _ c.new-keyed.result c.new-keyed.ensures _ c.push-reserved.ensures.items,
       (omega (arith, room), (omega arith, (s.some, (s.few, tt)))),
     )
 
 pub returns-in-Committed : goal.returns-in-Committed
 returns-in-Committed c =
     let s = c.args.self.now in
-    let free : s.places - c.len.result ≡ s.places - length (table-entries s) = omega (arith, s.entries.ok.0) in
+    let free : s.places - c.len.result ≡ s.places - length (table_entries s) = omega (arith, s.entries.ok.0) in
     let p = added _ s.places _ _ _ c.deref.ensures.value c.in-default.ensures _ _ _ (free, c.commit-answer-answer.ensures) c.in-Committed.is s.distinct c.new-keyed.result c.new-keyed.ensures _ c.push-reserved.ensures.items in
     record { value = p.0; after = p.1 }
 
 pub returns-in-default-answer : goal.returns-in-default-answer
 returns-in-default-answer c =
     let s = c.args.self.now in
-    let free : s.places - c.len.result ≡ s.places - length (table-entries s) = omega (arith, s.entries.ok.0) in
-    let p = not-added _ s.places _ _ _ c.deref.ensures.value c.in-default.ensures _ _ _ (free, c.commit-answer-answer.ensures) c.in-default-answer.not-Committed in
+    let free : s.places - c.len.result ≡ s.places - length (table_entries s) = omega (arith, s.entries.ok.0) in
+    let p = not_added _ s.places _ _ _ c.deref.ensures.value c.in-default.ensures _ _ _ (free, c.commit-answer-answer.ensures) c.in-default-answer.not-Committed in
     record { value = p.0; after = p.1 }
 
 -- ---- a key with an entry
@@ -34,20 +34,20 @@ returns-in-default-answer c =
 pub invariant-of-self-in-Committed-answer : goal.invariant-of-self-in-Committed-answer
 invariant-of-self-in-Committed-answer c =
     let s = c.args.self.now in (
-      replaced-different _ s.places _ _ _ c.deref.ensures.value s.distinct c.in-Some.i c.in-Some.ensures c.index.result.now c.index.ensures _ c.new-keyed.result c.new-keyed.ensures,
+      replaced_different _ s.places _ _ _ c.deref.ensures.value s.distinct c.in-Some.i c.in-Some.ensures c.index.result.now c.index.ensures _ c.new-keyed.result c.new-keyed.ensures,
       (s.used, (s.reserved, (s.some, (s.few, tt)))),
     )
 
 pub returns-in-Committed-answer : goal.returns-in-Committed-answer
 returns-in-Committed-answer c =
     let s = c.args.self.now in
-    let free : s.places - c.len.result ≡ s.places - length (table-entries s) = omega (arith, s.entries.ok.0) in
+    let free : s.places - c.len.result ≡ s.places - length (table_entries s) = omega (arith, s.entries.ok.0) in
     let p = replaced _ s.places _ _ _ c.deref.ensures.value s.distinct c.in-Some.i c.in-Some.ensures c.index.result.now c.index.ensures _ _ _ (free, c.commit-answer-answer-2.ensures) c.in-Committed-answer.is c.new-keyed.result c.new-keyed.ensures in
     record { value = p.0; after = p.1 }
 
 pub returns-in-default-answer-2 : goal.returns-in-default-answer-2
 returns-in-default-answer-2 c =
     let s = c.args.self.now in
-    let free : s.places - c.len.result ≡ s.places - length (table-entries s) = omega (arith, s.entries.ok.0) in
-    let p = not-replaced _ s.places _ _ _ c.deref.ensures.value s.distinct c.in-Some.i c.in-Some.ensures c.index.result.now c.index.ensures _ _ _ (free, c.commit-answer-answer-2.ensures) c.in-default-answer-2.not-Committed in
+    let free : s.places - c.len.result ≡ s.places - length (table_entries s) = omega (arith, s.entries.ok.0) in
+    let p = not_replaced _ s.places _ _ _ c.deref.ensures.value s.distinct c.in-Some.i c.in-Some.ensures c.index.result.now c.index.ensures _ _ _ (free, c.commit-answer-answer-2.ensures) c.in-default-answer-2.not-Committed in
     record { value = p.0; after = p.1 }

@@ -1,11 +1,11 @@
 use Rattle.std.proofs.Common.{sym, refl}
-use Rattle.directory_table.proofs.Effects.{none-held, held}
+use Rattle.directory_table.proofs.Effects.{none_held, held}
 use Rattle.directory_table.proofs.table.calls.TableDirectory.look.Goals as goal
 
 pub returns-in-err-i : goal.returns-in-err-i
 returns-in-err-i c =
     record {
-      value = rw c.from-residual.ensures (sym (none-held _ c.args.self.now.places _ _ _ c.deref.ensures.value c.in-err-i.ensures));
+      value = rw c.from-residual.ensures (sym (none_held _ c.args.self.now.places _ _ _ c.deref.ensures.value c.in-err-i.ensures));
       same = refl;
     }
 

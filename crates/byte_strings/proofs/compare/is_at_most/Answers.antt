@@ -1,0 +1,15 @@
+use Rattle.std.proofs.Common.{◌≡◌, ◌<◌, refl, arith}
+use Rattle.std.proofs.lemmas.Cmp.{same_from_slice_cmp_tested}
+use Rattle.std.proofs.lemmas.Bool.Decides.{nat_tests}
+use Rattle.std.specs.Ordering.{MatchOrdering, is_le, nat_cmp}
+use Rattle.byte_strings.specs.Order.{at_most}
+use Rattle.byte_strings.proofs.Order.{byte_strings_are_ordered}
+use Rattle.byte_strings.proofs.compare.is_at_most.Goals as goal
+
+pub returns : goal.returns
+unfolding at_most
+returns c =
+    record {
+      value = same_from_slice_cmp_tested nat_cmp is_le at_most refl (λ _ _. refl) (λ _ _. refl) (λ x y xs ys o h. grind (arith, nat_tests)) c.args.a.now c.args.b.now c.le.result c.le.ensures;
+      ordered = byte_strings_are_ordered;
+    }

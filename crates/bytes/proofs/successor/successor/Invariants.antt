@@ -1,5 +1,0 @@
-use Rattle.bytes.specs.Least.{Least}
-use Rattle.bytes.proofs.successor.successor.Given as goal
-
-abbrev pub invariant-loop-i : goal.invariant-loop-i
-invariant-loop-i g l = Least (g.B.Bound.above l.bound) g.T.Ordered.le l.items l.i l.best

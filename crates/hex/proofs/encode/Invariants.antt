@@ -1,6 +1,0 @@
-use Rattle.std.proofs.Common.{◌≡◌, take, vec_items}
-use Rattle.hex.specs.Hex.{hex}
-use Rattle.hex.proofs.encode.Given as goal
-
-abbrev pub invariant-loop-b : goal.invariant-loop-b
-invariant-loop-b l = vec_items l.text ≡ hex (take l.b-index l.bytes)

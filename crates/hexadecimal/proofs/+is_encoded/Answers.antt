@@ -1,0 +1,22 @@
+use Rattle.std.proofs.Common.{◌∙◌, rules}
+use Rattle.hexadecimal.proofs.Texts.{empty_hex, other_length, other_high, other_low, rest_hex}
+use Rattle.hexadecimal.proofs.+is_encoded.Goals as goal
+
+pub returns-in-empty-empty : goal.returns-in-empty-empty
+returns-in-empty-empty t c = search (rules, empty_hex)
+
+pub returns-in-default : goal.returns-in-default
+returns-in-default t c = search (rules, other_length)
+
+pub returns-in-default·2 : goal.returns-in-default·2
+returns-in-default·2 t c = search (rules, other_length)
+
+pub returns-then-high-digit : goal.returns-then-high-digit
+returns-then-high-digit t c = search (rules, other_high)
+
+pub returns-then-low-digit : goal.returns-then-low-digit
+returns-then-low-digit t c = search (rules, other_low)
+
+pub returns-else-low-digit : goal.returns-else-low-digit
+returns-else-low-digit t c =
+    rest_hex c.args.bytes.now c.args.text.now (search rules) (search rules) c.is-encoded.result (c.if-high-digit.false ∙ c.digit.ensures) (c.if-low-digit.false ∙ c.digit-in-len1-up-len2-up.ensures) c.is-encoded.ensures

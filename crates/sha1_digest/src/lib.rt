@@ -1,0 +1,21 @@
+//! SHA-1, as FIPS 180-4 defines it.
+ghost use Rattle.std.specs.Prelude.{◌≡◌};
+ghost use Rattle.sha1_digest.specs.Sha1.{sha1 as digested, DigestOfAbc};
+
+use digest::kind::DigestKind;
+
+mod constants;
+pub mod kind;
+mod rounds;
+
+/// The SHA-1 digest of `value`. That the definition is the standard's shows at its example, "abc".
+pub fn sha1(value: &[u8]) -> [u8; 20]
+    ensures value { result ≡ digested value.now }
+    ensures example { DigestOfAbc }
+{
+    let mut out = [0; 32];
+    <crate::kind::Sha1 as DigestKind>::digest(value, &mut out);
+    let mut short = [0; 20];
+    short.copy_from_slice(&out[0..20]);
+    short
+}

@@ -27,7 +27,7 @@ pub trait Bound<T: Ordered> {
 
 /// The index of the smallest item above the bound, the first of those that are equally small.
 pub fn successor<T: Ordered, B: Bound<T>>(items: &[T], bound: &B) -> Option<usize>
-    ensures { Least (above bound.now) le items.now (length items.now) result }
+    ensures { Least (B.above bound.now) T.le items.now (length items.now) result }
 {
     let mut best: Option<usize> = None;
     for i in 0..items.len() {
@@ -44,8 +44,8 @@ fn better<T: Ordered, B: Bound<T>>(
     best: Option<usize>,
 ) -> Option<usize>
     requires within { i < length items.now }
-    requires before { Least (above bound.now) le items.now i best }
-    ensures { Least (above bound.now) le items.now (i + 1) result }
+    requires before { Least (B.above bound.now) T.le items.now i best }
+    ensures { Least (B.above bound.now) T.le items.now (i + 1) result }
 {
     let item = &items[i];
     if !bound.is_below(item) {

@@ -1,6 +1,7 @@
 //! Maps from byte strings, as contracts speak of them: what a cloud holds by name, and a directory by key.
 //! There is no code here: the definitions are in specs/ and their laws in proofs/. The function below has the main
 //! law as its contract.
+#![tactic(auto)]
 
 ghost use Rattle.bytemap.specs.Laws.{AMapIsWhatItFinds};
 

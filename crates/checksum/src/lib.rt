@@ -1,3 +1,4 @@
+#![tactic(auto)]
 // A line as `sha256sum` writes and `sha256sum -c` reads it: a digest and the name of its file.
 ghost use Rattle.std.specs.Prelude.{◌≡◌, ◌++◌, IfOk, OnOk};
 ghost use Rattle.checksum.specs.Line.{escape, escaped, has_special, is_special, line_of};

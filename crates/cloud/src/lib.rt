@@ -1,4 +1,5 @@
 //! Clouds: what they mean, and the calls at one.
+#![tactic(auto)]
 
 pub mod interface;
 pub mod laws;

@@ -1,4 +1,5 @@
 //! Cases of clouds and rows. All of them are tests; those that hold for every kind of cloud are one generic function.
+#![tactic(auto)]
 
 #[cfg(test)]
 mod any_cloud;

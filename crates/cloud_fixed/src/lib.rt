@@ -1,4 +1,5 @@
 //! A cloud of up to 32 places of one size, in memory that is handed in.
+#![tactic(auto)]
 
 pub mod fixed;
 mod front;

@@ -1,4 +1,5 @@
 //! A cloud that keeps its names and values as a log in bytes.
+#![tactic(auto)]
 
 mod closing;
 pub mod entry;

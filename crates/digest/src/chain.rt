@@ -38,7 +38,7 @@ const BEFORE_LENGTH: usize = 56;
 /// Compresses the blocks of the padded value that the value does not fill: one, or two where the length finds no place
 /// in the block in which the value ends.
 fn compress_end<C: Compression>(state: &mut C, value: &[u8])
-    ensures { hash state.new ≡ turned (λ h i. compressed h (block (padded value.now) (length value.now / 64 + i))) (hash state.old) ((length value.now % 64 + 72) / 64) }
+    ensures { C.hash state.new ≡ turned (λ h i. C.compressed h (block (padded value.now) (length value.now / 64 + i))) (C.hash state.old) ((length value.now % 64 + 72) / 64) }
 {
     let mut words = end_block(value);
     if value.len() % 64 >= BEFORE_LENGTH {
@@ -65,7 +65,7 @@ fn write_words(words: &[u32], out: &mut [u8; 32])
 
 /// Writes the digest of `value`, of any length, over the first bytes of `out`; the others stay.
 pub fn digest_into<C: Compression + Drop>(value: &[u8], out: &mut [u8; 32])
-    ensures value { out.new ≡ digest_of initial compressed value.now ++ drop (4 * size) out.old }
+    ensures value { out.new ≡ digest_of C.initial C.compressed value.now ++ drop (4 * C.size) out.old }
     ensures padding { PaddingRight value.now }
 {
     let mut state = C::start();

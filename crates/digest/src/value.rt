@@ -43,7 +43,7 @@ impl Digest {
 
     /// The digest of `value`.
     pub fn of<K: DigestKind>(value: &[u8]) -> Digest
-        ensures { digest_bytes result ≡ digested value.now }
+        ensures { digest_bytes result ≡ K.digested value.now }
     {
         let mut out = [0; 32];
         K::digest(value, &mut out);
@@ -55,7 +55,7 @@ impl Digest {
 
     /// Whether this is the digest of `value`. A digest of another width is not.
     pub fn matches<K: DigestKind>(&self, value: &[u8]) -> bool
-        ensures { Decides result (digest_bytes self.now ≡ digested value.now) }
+        ensures { Decides result (digest_bytes self.now ≡ K.digested value.now) }
     {
         let mut out = [0; 32];
         K::digest(value, &mut out);

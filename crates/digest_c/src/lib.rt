@@ -1,4 +1,6 @@
 //! The digests as functions for C. A slice passes as a pointer and a length.
+#![tactic(auto)]
+
 ghost use Rattle.std.specs.Prelude.{◌≡◌};
 ghost use Rattle.sha1_digest.specs.Sha1.{sha1 as sha1-digest};
 ghost use Rattle.sha256.specs.Sha256.{sha256 as sha256-digest};

@@ -1,4 +1,5 @@
 //! Directory entries: the last write to a key, and where its value is.
+#![tactic(auto)]
 
 pub mod entry;
 pub mod live;

@@ -1,4 +1,5 @@
 //! Cases of entries, refusals and lines of digests. All of them are tests.
+#![tactic(auto)]
 
 #[cfg(test)]
 mod entries;

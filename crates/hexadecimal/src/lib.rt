@@ -1,3 +1,4 @@
+#![tactic(auto)]
 // Bytes as hexadecimal text.
 ghost use Rattle.std.specs.Prelude.{◌≡◌, ◌<◌, IfOk, Decides};
 ghost use Rattle.hexadecimal.specs.Hex.{hex_digit, hex};

@@ -1,4 +1,5 @@
 //! What a Locker promises, over every history of calls.
+#![tactic(auto)]
 
 ghost use Rattle.history.specs.Promises.{AnOpenedLockerKeepsItsPromises};
 

@@ -1,4 +1,5 @@
 //! Cases of journals and their records. All of them are tests.
+#![tactic(auto)]
 
 #[cfg(test)]
 mod close_up_cases;

@@ -1,4 +1,5 @@
 //! A record of a journal: the last write to a key, in bytes.
+#![tactic(auto)]
 
 mod buffer;
 mod fields;

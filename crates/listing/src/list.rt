@@ -17,9 +17,9 @@ use protocol::answers::Listed;
 /// Writes each live key of the container, ascending, as a length byte and the key's bytes; what follows them in the
 /// buffer stays. Where they do not fit, there is no answer, and the buffer stays as it was.
 pub fn list<D: Directory>(directory: &mut D, container: u8, buffer: &mut [u8]) -> Option<Listed>
-    ensures answer { result ≡ listed (keys_of (meaning directory.old) container) buffer.old }
-    ensures written { buffer.new ≡ listed_over (keys_of (meaning directory.old) container) buffer.old }
-    ensures same { meaning directory.new ≡ meaning directory.old }
+    ensures answer { result ≡ listed (keys_of (D.meaning directory.old) container) buffer.old }
+    ensures written { buffer.new ≡ listed_over (keys_of (D.meaning directory.old) container) buffer.old }
+    ensures same { D.meaning directory.new ≡ D.meaning directory.old }
 {
     let size = measure(directory, container);
     if buffer.len() < size.bytes {
@@ -31,8 +31,8 @@ pub fn list<D: Directory>(directory: &mut D, container: u8, buffer: &mut [u8]) -
 
 // How many keys there are, and how many bytes their listing has.
 fn measure<D: Directory>(directory: &mut D, container: u8) -> Listed
-    ensures value { result ≡ measured (keys_of (meaning directory.old) container) }
-    ensures same { meaning directory.new ≡ meaning directory.old }
+    ensures value { result ≡ measured (keys_of (D.meaning directory.old) container) }
+    ensures same { D.meaning directory.new ≡ D.meaning directory.old }
 {
     let mut count: usize = 0;
     let mut bytes: usize = 0;
@@ -47,9 +47,9 @@ fn measure<D: Directory>(directory: &mut D, container: u8) -> Listed
 
 // Writes the listing, for which there is room.
 fn write<D: Directory>(directory: &mut D, container: u8, buffer: &mut [u8])
-    requires { length (listing (keys_of (meaning directory.old) container)) ≤ length buffer.old }
-    ensures written { buffer.new ≡ listing (keys_of (meaning directory.old) container) ++ drop (length (listing (keys_of (meaning directory.old) container))) buffer.old }
-    ensures same { meaning directory.new ≡ meaning directory.old }
+    requires { length (listing (keys_of (D.meaning directory.old) container)) ≤ length buffer.old }
+    ensures written { buffer.new ≡ listing (keys_of (D.meaning directory.old) container) ++ drop (length (listing (keys_of (D.meaning directory.old) container))) buffer.old }
+    ensures same { D.meaning directory.new ≡ D.meaning directory.old }
 {
     let mut at = 0;
     let mut next = next_live(directory, container, &[]);
@@ -61,8 +61,8 @@ fn write<D: Directory>(directory: &mut D, container: u8, buffer: &mut [u8])
 
 // The container's smallest live key above these bytes.
 fn next_live<D: Directory>(directory: &mut D, container: u8, above: &[u8]) -> Option<Key>
-    ensures value { keys_from (contents container (meaning directory.old).entries) result ≡ live_keys (beyond above.now (contents container (meaning directory.old).entries)) }
-    ensures same { meaning directory.new ≡ meaning directory.old }
+    ensures value { keys_from (contents container (D.meaning directory.old).entries) result ≡ live_keys (beyond above.now (contents container (D.meaning directory.old).entries)) }
+    ensures same { D.meaning directory.new ≡ D.meaning directory.old }
 {
     let mut next = next_key(directory, container, above);
     while let Some(key) = next {
@@ -76,8 +76,8 @@ fn next_live<D: Directory>(directory: &mut D, container: u8, above: &[u8]) -> Op
 
 // The container's smallest key above these bytes, live or deleted.
 fn next_key<D: Directory>(directory: &mut D, container: u8, above: &[u8]) -> Option<Key>
-    ensures value { option_map key_bytes result ≡ key_after (meaning directory.old) container above.now }
-    ensures same { meaning directory.new ≡ meaning directory.old }
+    ensures value { option_map key_bytes result ≡ key_after (D.meaning directory.old) container above.now }
+    ensures same { D.meaning directory.new ≡ D.meaning directory.old }
 {
     let mut place = [0; 32];
     let len = directory.next(container, above, &mut place)?;
@@ -86,8 +86,8 @@ fn next_key<D: Directory>(directory: &mut D, container: u8, above: &[u8]) -> Opt
 }
 
 fn is_live<D: Directory>(directory: &mut D, container: u8, key: &Key) -> bool
-    ensures value { result ≡ is_there (live_of (entry_of (meaning directory.old) container (key_bytes key.now))) }
-    ensures same { meaning directory.new ≡ meaning directory.old }
+    ensures value { result ≡ is_there (live_of (entry_of (D.meaning directory.old) container (key_bytes key.now))) }
+    ensures same { D.meaning directory.new ≡ D.meaning directory.old }
 {
     match directory.look(container, key) {
         None => false,

@@ -1,4 +1,5 @@
 //! Keys, stamps, and the names under which values are stored.
+#![tactic(auto)]
 
 mod buffer;
 pub mod key;

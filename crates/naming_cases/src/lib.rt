@@ -1,4 +1,5 @@
 //! Cases of byte strings, keys, stamps, names, and of the next name and key. All of them are tests.
+#![tactic(auto)]
 
 #[cfg(test)]
 mod byte_cases;

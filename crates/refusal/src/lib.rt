@@ -1,3 +1,4 @@
+#![tactic(auto)]
 // Why a call is refused, and why a cloud refused what it was asked.
 ghost use Rattle.std.specs.Prelude.{◌≡◌};
 ghost use Rattle.refusal.specs.Numbers.{cause_number, refusal_fault, refusal_number, refusal_offset};

@@ -1,4 +1,5 @@
 //! Rows of clouds: one cloud, or two rows joined, called by number.
+#![tactic(auto)]
 
 pub mod fault;
 pub mod interface;

@@ -1,4 +1,6 @@
 //! SHA-1, as FIPS 180-4 defines it.
+#![tactic(auto)]
+
 ghost use Rattle.std.specs.Prelude.{◌≡◌};
 ghost use Rattle.sha1_digest.specs.Sha1.{sha1 as digested, DigestOfAbc};
 

@@ -1,4 +1,6 @@
 //! SHA-256, as FIPS 180-4 defines it.
+#![tactic(auto)]
+
 ghost use Rattle.std.specs.Prelude.{◌≡◌};
 ghost use Rattle.sha256.specs.Sha256.{sha256 as digested, DigestOfAbc};
 

@@ -1,4 +1,5 @@
 //! What calls ask of one cloud: to keep the value of a save, and to give the value of a fetch.
+#![tactic(auto)]
 
 ghost use Rattle.std.specs.Prelude.{◌≡◌, length, take, replicate, Err, nat_lt};
 ghost use Rattle.refusal.specs.declared.Refusal.TheVariants.{BufferTooShort};
@@ -27,7 +28,7 @@ pub fn put_at<R: Row>(
     saving: &Saving,
     value: &[u8],
 ) -> Result<(), CloudFault>
-    ensures asked { puts row.old cloud (name_of (saving_value saving.now).container (saving_value saving.now).key (saving_value saving.now).stamp) value.now (put_said result) row.new }
+    ensures asked { R.puts row.old cloud (name_of (saving_value saving.now).container (saving_value saving.now).key (saving_value saving.now).stamp) value.now (put_said result) row.new }
     ensures fault { result ≡ numbered cloud (put_said result) }
 {
     let name = saving.name();
@@ -36,7 +37,7 @@ pub fn put_at<R: Row>(
 
 // Whether what a cloud gave has the size and the digest of the value that was saved.
 fn is_saved<K: DigestKind>(live: &Live, length: usize, part: &[u8]) -> bool
-    ensures { result ≡ is_saved_value (digesting digested) (live_value live.now) length part.now }
+    ensures { result ≡ is_saved_value (digesting K.digested) (live_value live.now) length part.now }
 {
     length == live.size() && live.digest().matches::<K>(part)
 }
@@ -48,7 +49,7 @@ fn ask<R: Row, K: DigestKind>(
     fetching: &Fetching,
     part: &mut [u8],
 ) -> Result<usize, Refusal>
-    ensures judged { Judged (λ said got. gets row.old cloud (name_of fetching.now.container (key_bytes fetching.now.key) (stamp_value fetching.now.stamp)) part.old said got row.new) digested cloud (fetching_value fetching.now) part.new result }
+    ensures judged { Judged (λ said got. R.gets row.old cloud (name_of fetching.now.container (key_bytes fetching.now.key) (stamp_value fetching.now.stamp)) part.old said got row.new) K.digested cloud (fetching_value fetching.now) part.new result }
     ensures len { length part.new ≡ length part.old }
 {
     let name = Name::new(fetching.container, &fetching.key, &fetching.stamp);
@@ -75,7 +76,7 @@ fn ask_or_clear<R: Row, K: DigestKind>(
     part: &mut [u8],
 ) -> Result<usize, Refusal>
     requires { length part.old ≡ (fetching_value fetching.now).live.size }
-    ensures { Kept (λ said got. gets row.old cloud (name_of fetching.now.container (key_bytes fetching.now.key) (stamp_value fetching.now.stamp)) part.old said got row.new) digested cloud (fetching_value fetching.now) part.new result }
+    ensures { Kept (λ said got. R.gets row.old cloud (name_of fetching.now.container (key_bytes fetching.now.key) (stamp_value fetching.now.stamp)) part.old said got row.new) K.digested cloud (fetching_value fetching.now) part.new result }
 {
     let answer = ask::<R, K>(row, cloud, fetching, part);
     if answer.is_err() {
@@ -92,7 +93,7 @@ pub fn try_at<R: Row, K: DigestKind>(
     fetching: &Fetching,
     buffer: &mut [u8],
 ) -> Result<usize, Refusal>
-    ensures { If (nat_lt (length buffer.old) (fetching_value fetching.now).live.size) ((result ≡ Err BufferTooShort) × ((buffer.new ≡ buffer.old) × (row.new ≡ row.old))) (Tried (λ said got. gets row.old cloud (name_of fetching.now.container (key_bytes fetching.now.key) (stamp_value fetching.now.stamp)) (take (fetching_value fetching.now).live.size buffer.old) said got row.new) digested cloud (fetching_value fetching.now) buffer.old buffer.new result) }
+    ensures { If (nat_lt (length buffer.old) (fetching_value fetching.now).live.size) ((result ≡ Err BufferTooShort) × ((buffer.new ≡ buffer.old) × (row.new ≡ row.old))) (Tried (λ said got. R.gets row.old cloud (name_of fetching.now.container (key_bytes fetching.now.key) (stamp_value fetching.now.stamp)) (take (fetching_value fetching.now).live.size buffer.old) said got row.new) K.digested cloud (fetching_value fetching.now) buffer.old buffer.new result) }
 {
     let size = fetching.live.size();
     if buffer.len() < size {

@@ -1,4 +1,5 @@
 //! Worked examples of the definitions that contracts cite, as one table.
+#![tactic(auto)]
 
 ghost use Rattle.worked_examples.specs.Examples.{WorkedExamples};
 

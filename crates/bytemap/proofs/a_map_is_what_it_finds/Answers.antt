@@ -7,6 +7,6 @@ returns c =
       same = same_map;
       inserted = find_insert;
       removed = find_remove;
-      insert-ascends = ascending_insert;
-      remove-ascends = ascending_remove;
+      insert_ascends = ascending_insert;
+      remove_ascends = ascending_remove;
     }

@@ -1,5 +1,5 @@
 use Rattle.std.proofs.Common.{length}
 use Rattle.hexadecimal.proofs.+is_encoded.Given as goal
 
-abbrev pub decreases-is-encoded : goal.decreases-is-encoded
-decreases-is-encoded l = length l.bytes.now
+abbrev pub decreases-is_encoded : goal.decreases-is_encoded
+decreases-is_encoded l = length l.bytes.now

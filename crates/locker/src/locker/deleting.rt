@@ -22,7 +22,7 @@ use slots::slot::{Asked, Doing};
 impl<D: Directory, R: Row, K: DigestKind> Locker<D, R, K> {
     /// Deletes the key, which must have a value, and answers the stamp of that.
     pub fn delete(&mut self, party: u8, container: u8, key: &[u8]) -> Result<Stamp, Refusal>
-        ensures step { Step (setting_of digested self.old.limits) (state_of (meaning self.old.directory) (clouds self.old.row) self.old.slots) (deleted party container key.now (answered stamp_value result)) (state_of (meaning self.new.directory) (clouds self.new.row) self.new.slots) }
+        ensures step { Step (setting_of K.digested self.old.limits) (state_of (D.meaning self.old.directory) (R.clouds self.old.row) self.old.slots) (deleted party container key.now (answered stamp_value result)) (state_of (D.meaning self.new.directory) (R.clouds self.new.row) self.new.slots) }
         ensures row { self.new.row ≡ self.old.row }
         ensures limits { self.new.limits ≡ self.old.limits }
     {
@@ -40,7 +40,7 @@ impl<D: Directory, R: Row, K: DigestKind> Locker<D, R, K> {
 
     /// Ends what the party has under way.
     pub fn leave(&mut self, party: u8) -> Result<(), Refusal>
-        ensures step { Step (setting_of digested self.old.limits) (state_of (meaning self.old.directory) (clouds self.old.row) self.old.slots) (left party result) (state_of (meaning self.new.directory) (clouds self.new.row) self.new.slots) }
+        ensures step { Step (setting_of K.digested self.old.limits) (state_of (D.meaning self.old.directory) (R.clouds self.old.row) self.old.slots) (left party result) (state_of (D.meaning self.new.directory) (R.clouds self.new.row) self.new.slots) }
         ensures row { self.new.row ≡ self.old.row }
         ensures limits { self.new.limits ≡ self.old.limits }
     {

@@ -26,7 +26,7 @@ use trying::try_at;
 impl<D: Directory, R: Row, K: DigestKind> Locker<D, R, K> {
     /// Begins to fetch the value of the key, and answers its stamp and size.
     pub fn begin_fetch(&mut self, party: u8, container: u8, key: &[u8]) -> Result<Found, Refusal>
-        ensures step { Step (setting_of digested self.old.limits) (state_of (meaning self.old.directory) (clouds self.old.row) self.old.slots) (began_fetch party container key.now (answered found_value result)) (state_of (meaning self.new.directory) (clouds self.new.row) self.new.slots) }
+        ensures step { Step (setting_of K.digested self.old.limits) (state_of (D.meaning self.old.directory) (R.clouds self.old.row) self.old.slots) (began_fetch party container key.now (answered found_value result)) (state_of (D.meaning self.new.directory) (R.clouds self.new.row) self.new.slots) }
         ensures row { self.new.row ≡ self.old.row }
         ensures limits { self.new.limits ≡ self.old.limits }
     {
@@ -51,8 +51,8 @@ impl<D: Directory, R: Row, K: DigestKind> Locker<D, R, K> {
         cloud: usize,
         buffer: &mut [u8],
     ) -> Result<usize, Refusal>
-        ensures step { Step (setting_of digested self.old.limits) (state_of (meaning self.old.directory) (clouds self.old.row) self.old.slots) (tried party cloud buffer.old buffer.new result) (state_of (meaning self.new.directory) (clouds self.new.row) self.new.slots) }
-        ensures row { by_ground (first_ground (setting_of digested self.old.limits) (try_cloud party cloud buffer.old) (state_of (meaning self.old.directory) (clouds self.old.row) self.old.slots)) (Tried (λ said got. gets self.old.row cloud (name_of (fetching_of (slice_index_or (slots_value self.old.slots) (party - 1) idle)).container (fetching_of (slice_index_or (slots_value self.old.slots) (party - 1) idle)).key (fetching_of (slice_index_or (slots_value self.old.slots) (party - 1) idle)).stamp) (take (fetching_of (slice_index_or (slots_value self.old.slots) (party - 1) idle)).live.size buffer.old) said got self.new.row) digested cloud (fetching_of (slice_index_or (slots_value self.old.slots) (party - 1) idle)) buffer.old buffer.new result) (self.new.row ≡ self.old.row) }
+        ensures step { Step (setting_of K.digested self.old.limits) (state_of (D.meaning self.old.directory) (R.clouds self.old.row) self.old.slots) (tried party cloud buffer.old buffer.new result) (state_of (D.meaning self.new.directory) (R.clouds self.new.row) self.new.slots) }
+        ensures row { by_ground (first_ground (setting_of K.digested self.old.limits) (try_cloud party cloud buffer.old) (state_of (D.meaning self.old.directory) (R.clouds self.old.row) self.old.slots)) (Tried (λ said got. R.gets self.old.row cloud (name_of (fetching_of (slice_index_or (slots_value self.old.slots) (party - 1) idle)).container (fetching_of (slice_index_or (slots_value self.old.slots) (party - 1) idle)).key (fetching_of (slice_index_or (slots_value self.old.slots) (party - 1) idle)).stamp) (take (fetching_of (slice_index_or (slots_value self.old.slots) (party - 1) idle)).live.size buffer.old) said got self.new.row) K.digested cloud (fetching_of (slice_index_or (slots_value self.old.slots) (party - 1) idle)) buffer.old buffer.new result) (self.new.row ≡ self.old.row) }
         ensures limits { self.new.limits ≡ self.old.limits }
     {
         let party = Party::new(party)?;
@@ -66,7 +66,7 @@ impl<D: Directory, R: Row, K: DigestKind> Locker<D, R, K> {
 
     /// Goes on with the fetch by the key's entry of now. A fetch whose key has no value any more is over.
     pub fn look_again(&mut self, party: u8) -> Result<Found, Refusal>
-        ensures step { Step (setting_of digested self.old.limits) (state_of (meaning self.old.directory) (clouds self.old.row) self.old.slots) (looked_again party (answered found_value result)) (state_of (meaning self.new.directory) (clouds self.new.row) self.new.slots) }
+        ensures step { Step (setting_of K.digested self.old.limits) (state_of (D.meaning self.old.directory) (R.clouds self.old.row) self.old.slots) (looked_again party (answered found_value result)) (state_of (D.meaning self.new.directory) (R.clouds self.new.row) self.new.slots) }
         ensures row { self.new.row ≡ self.old.row }
         ensures limits { self.new.limits ≡ self.old.limits }
     {

@@ -20,7 +20,7 @@ const MOST_CLOUDS: usize = 7;
 
 // The limits for this row, where it bears so many faults.
 fn limits_of<R: Row>(row: &R, faults: u8) -> Option<Limits>
-    ensures { MatchOption result (supported faults (length (clouds row.now)) ≡ false) (λ l. (supported faults (length (clouds row.now)) ≡ true) × ((l.faults ≡ faults) × (l.clouds ≡ length (clouds row.now)))) }
+    ensures { MatchOption result (supported faults (length (R.clouds row.now)) ≡ false) (λ l. (supported faults (length (R.clouds row.now)) ≡ true) × ((l.faults ≡ faults) × (l.clouds ≡ length (R.clouds row.now)))) }
 {
     // Past the seventh cloud by as many as the row has fewer.
     let missing = row.past(MOST_CLOUDS)?;
@@ -33,8 +33,8 @@ impl<D: Directory, R: Row, K: DigestKind> Locker<D, R, K> {
     ///
     /// A Locker that is opened over an empty directory keeps its promises over every history of calls.
     pub fn open(directory: D, row: R, faults: u8) -> Result<Locker<D, R, K>, Rejected<(D, R)>>
-        ensures value { MatchResult result (λ l. (supported faults (length (clouds row)) ≡ true) × (l.directory ≡ directory) × (l.row ≡ row) × (state_of (meaning l.directory) (clouds l.row) l.slots ≡ record { directory = meaning directory; clouds = clouds row; slots = replicate 16 idle }) × (setting_of digested l.limits ≡ record { digested = digested; faults = faults; clouds = length (clouds row) })) (λ e. (supported faults (length (clouds row)) ≡ false) × (e.refusal ≡ UnsupportedRow) × (e.given ≡ (directory, row))) }
-        ensures promises { IfOk result (λ l. (meaning directory).entries ≡ [] → Promises (setting_of digested l.limits) (state_of (meaning l.directory) (clouds l.row) l.slots)) }
+        ensures value { MatchResult result (λ l. (supported faults (length (R.clouds row)) ≡ true) × (l.directory ≡ directory) × (l.row ≡ row) × (state_of (D.meaning l.directory) (R.clouds l.row) l.slots ≡ record { directory = D.meaning directory; R.clouds = R.clouds row; slots = replicate 16 idle }) × (setting_of K.digested l.limits ≡ record { K.digested = K.digested; faults = faults; R.clouds = length (R.clouds row) })) (λ e. (supported faults (length (R.clouds row)) ≡ false) × (e.refusal ≡ UnsupportedRow) × (e.given ≡ (directory, row))) }
+        ensures promises { IfOk result (λ l. (D.meaning directory).entries ≡ [] → Promises (setting_of K.digested l.limits) (state_of (D.meaning l.directory) (R.clouds l.row) l.slots)) }
     {
         let Some(limits) = limits_of(&row, faults) else {
             return Err(Rejected {

@@ -34,7 +34,7 @@ impl<D: Directory, R: Row, K: DigestKind> Locker<D, R, K> {
         key: &[u8],
         value: &[u8],
     ) -> Result<Stamp, Refusal>
-        ensures step { Step (setting_of digested self.old.limits) (state_of (meaning self.old.directory) (clouds self.old.row) self.old.slots) (began_save party container key.now value.now (answered stamp_value result)) (state_of (meaning self.new.directory) (clouds self.new.row) self.new.slots) }
+        ensures step { Step (setting_of K.digested self.old.limits) (state_of (D.meaning self.old.directory) (R.clouds self.old.row) self.old.slots) (began_save party container key.now value.now (answered stamp_value result)) (state_of (D.meaning self.new.directory) (R.clouds self.new.row) self.new.slots) }
         ensures row { self.new.row ≡ self.old.row }
         ensures limits { self.new.limits ≡ self.old.limits }
     {
@@ -52,8 +52,8 @@ impl<D: Directory, R: Row, K: DigestKind> Locker<D, R, K> {
 
     /// Puts the value that was begun at a cloud, and answers how many clouds have acknowledged it.
     pub fn store(&mut self, party: u8, cloud: usize, value: &[u8]) -> Result<usize, Refusal>
-        ensures step { Step (setting_of digested self.old.limits) (state_of (meaning self.old.directory) (clouds self.old.row) self.old.slots) (stored party cloud value.now result) (state_of (meaning self.new.directory) (clouds self.new.row) self.new.slots) }
-        ensures row { by_ground (first_ground (setting_of digested self.old.limits) (store party cloud value.now) (state_of (meaning self.old.directory) (clouds self.old.row) self.old.slots)) (puts self.old.row cloud (name_of (saving_of (slice_index_or (slots_value self.old.slots) (party - 1) idle)).container (saving_of (slice_index_or (slots_value self.old.slots) (party - 1) idle)).key (saving_of (slice_index_or (slots_value self.old.slots) (party - 1) idle)).stamp) value.now (said result) self.new.row) (self.new.row ≡ self.old.row) }
+        ensures step { Step (setting_of K.digested self.old.limits) (state_of (D.meaning self.old.directory) (R.clouds self.old.row) self.old.slots) (stored party cloud value.now result) (state_of (D.meaning self.new.directory) (R.clouds self.new.row) self.new.slots) }
+        ensures row { by_ground (first_ground (setting_of K.digested self.old.limits) (store party cloud value.now) (state_of (D.meaning self.old.directory) (R.clouds self.old.row) self.old.slots)) (R.puts self.old.row cloud (name_of (saving_of (slice_index_or (slots_value self.old.slots) (party - 1) idle)).container (saving_of (slice_index_or (slots_value self.old.slots) (party - 1) idle)).key (saving_of (slice_index_or (slots_value self.old.slots) (party - 1) idle)).stamp) value.now (said result) self.new.row) (self.new.row ≡ self.old.row) }
         ensures limits { self.new.limits ≡ self.old.limits }
     {
         let party = Party::new(party)?;
@@ -71,7 +71,7 @@ impl<D: Directory, R: Row, K: DigestKind> Locker<D, R, K> {
 
     /// Sets the key's entry to the value that was saved, once more clouds have it than may be unsound.
     pub fn commit(&mut self, party: u8) -> Result<CommitOutcome, Refusal>
-        ensures step { Step (setting_of digested self.old.limits) (state_of (meaning self.old.directory) (clouds self.old.row) self.old.slots) (committed party result) (state_of (meaning self.new.directory) (clouds self.new.row) self.new.slots) }
+        ensures step { Step (setting_of K.digested self.old.limits) (state_of (D.meaning self.old.directory) (R.clouds self.old.row) self.old.slots) (committed party result) (state_of (D.meaning self.new.directory) (R.clouds self.new.row) self.new.slots) }
         ensures row { self.new.row ≡ self.old.row }
         ensures limits { self.new.limits ≡ self.old.limits }
     {

@@ -25,7 +25,7 @@ use sweeping::sweep::sweep;
 impl<D: Directory, R: Row, K: DigestKind> Locker<D, R, K> {
     /// Begins to sweep the names of the key that are below its entry's stamp, and answers that stamp.
     pub fn begin_sweep(&mut self, party: u8, container: u8, key: &[u8]) -> Result<Stamp, Refusal>
-        ensures step { Step (setting_of digested self.old.limits) (state_of (meaning self.old.directory) (clouds self.old.row) self.old.slots) (began_sweep party container key.now (answered stamp_value result)) (state_of (meaning self.new.directory) (clouds self.new.row) self.new.slots) }
+        ensures step { Step (setting_of K.digested self.old.limits) (state_of (D.meaning self.old.directory) (R.clouds self.old.row) self.old.slots) (began_sweep party container key.now (answered stamp_value result)) (state_of (D.meaning self.new.directory) (R.clouds self.new.row) self.new.slots) }
         ensures row { self.new.row ≡ self.old.row }
         ensures limits { self.new.limits ≡ self.old.limits }
     {
@@ -46,8 +46,8 @@ impl<D: Directory, R: Row, K: DigestKind> Locker<D, R, K> {
 
     /// Drops the names of the key's older writes that the cloud lists, and answers how many drops it acknowledged.
     pub fn sweep(&mut self, party: u8, cloud: usize) -> Result<usize, Refusal>
-        ensures step { Step (setting_of digested self.old.limits) (state_of (meaning self.old.directory) (clouds self.old.row) self.old.slots) (swept party cloud result) (state_of (meaning self.new.directory) (clouds self.new.row) self.new.slots) }
-        ensures row { by_ground (first_ground (setting_of digested self.old.limits) (sweep party cloud) (state_of (meaning self.old.directory) (clouds self.old.row) self.old.slots)) (Swept (λ a above place answer place' b. nexts a cloud above place answer place' b) (λ a name answer b. drops a cloud name answer b) (sweeping_of (slice_index_or (slots_value self.old.slots) (party - 1) idle)) self.old.row self.new.row (swept_said result)) (self.new.row ≡ self.old.row) }
+        ensures step { Step (setting_of K.digested self.old.limits) (state_of (D.meaning self.old.directory) (R.clouds self.old.row) self.old.slots) (swept party cloud result) (state_of (D.meaning self.new.directory) (R.clouds self.new.row) self.new.slots) }
+        ensures row { by_ground (first_ground (setting_of K.digested self.old.limits) (sweep party cloud) (state_of (D.meaning self.old.directory) (R.clouds self.old.row) self.old.slots)) (Swept (λ a above place answer place' b. R.nexts a cloud above place answer place' b) (λ a name answer b. R.drops a cloud name answer b) (sweeping_of (slice_index_or (slots_value self.old.slots) (party - 1) idle)) self.old.row self.new.row (swept_said result)) (self.new.row ≡ self.old.row) }
         ensures limits { self.new.limits ≡ self.old.limits }
     {
         let party = Party::new(party)?;

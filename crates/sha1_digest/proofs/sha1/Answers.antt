@@ -8,6 +8,6 @@ pub returns : goal.returns
 returns c =
     let m = c.args.value.now in
     record {
-      value = c.copy-from-slice.ensures.after ∙ ap (take 20) c.digest.ensures ∙ take_at (sha1 m) _ 20 (length_sha1 m);
+      value = c.copy_from_slice.ensures.after ∙ ap (take 20) c.digest.ensures ∙ take_at (sha1 m) _ 20 (length_sha1 m);
       example = digest_of_abc;
     }

@@ -31,7 +31,7 @@ impl Saving {
         stamp: Stamp,
         value: &[u8],
     ) -> Option<Saving>
-        ensures { MatchOption result (can_begin (stamp_value stamp) (length value.now) ≡ false) (λ x. (can_begin (stamp_value stamp) (length value.now) ≡ true) × (saving_value x ≡ record { container = container; key = key_bytes key; stamp = stamp_value stamp; size = length value.now; digest = digested value.now; stored = 0 })) }
+        ensures { MatchOption result (can_begin (stamp_value stamp) (length value.now) ≡ false) (λ x. (can_begin (stamp_value stamp) (length value.now) ≡ true) × (saving_value x ≡ record { container = container; key = key_bytes key; stamp = stamp_value stamp; size = length value.now; digest = K.digested value.now; stored = 0 })) }
     {
         if stamp.sequence() < 1 || stamp.writer() < 1 || value.len() > LONGEST_VALUE {
             return None;

@@ -40,7 +40,7 @@ impl Slots {
 
     /// Whether this is the value of the party's save.
     pub fn is_begun<K: DigestKind>(&self, party: Party, value: &[u8]) -> bool
-        ensures { result ≡ of_saving (slice_index_or (slots_value self.now) (party_number party - 1) idle) (is_begun_value (digesting digested) value.now) }
+        ensures { result ≡ of_saving (slice_index_or (slots_value self.now) (party_number party - 1) idle) (is_begun_value (digesting K.digested) value.now) }
     {
         self.slot(party).is_begun::<K>(value)
     }

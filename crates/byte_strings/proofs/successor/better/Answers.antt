@@ -14,4 +14,4 @@ returns g c =
     let Q : Option ℕ → Type 0 = λ r. Least passes le xs i r in
     let inv : Q (Some c.in-Some.b) = subst Q c.in-Some.is c.requires.before in
     let lt : c.in-Some.b < length xs = omega (arith, inv.within) in
-    least_take passes le g.met.T.Ordered.ordered xs i c.in-Some.b c.index-items-i.result c.index-items-b.result (get_or_read xs i _ c.requires.within c.index-items-i.is) (get_or_read xs _ _ lt c.index-items-b.is) inv (sym c.if-is-at-most.ensures) (sym c.if-not-is-below.ensures.value)
+    least_take passes le g.met.T.Ordered.ordered xs i c.in-Some.b c.index-items-i.result c.index-items-b.result (get_or_read xs i _ c.requires.within c.index-items-i.is) (get_or_read xs _ _ lt c.index-items-b.is) inv (sym c.if-is_at_most.ensures) (sym c.if-not-is_below.ensures.value)

@@ -6,5 +6,5 @@ pub returns-in-Some : goal.returns-in-Some
 returns-in-Some c =
     record { items = c.remove.ensures.items ∙ ap (without (vec_items c.args.index.now)) (sym c.in-Some.is); capacity = c.remove.ensures.capacity }
 
-pub returns-in-default : goal.returns-in-default
-returns-in-default c = record { items = ap (without (vec_items c.args.index.now)) (sym c.in-default.is); capacity = refl }
+pub returns-in_default : goal.returns-in_default
+returns-in_default c = record { items = ap (without (vec_items c.args.index.now)) (sym c.in_default.is); capacity = refl }

@@ -4,19 +4,19 @@ use Rattle.std.proofs.lemmas.Bool.Decides.{not_from_Decides}
 use Rattle.cloud_log.specs.Index.{name_of, names}
 use Rattle.cloud_log.proofs.index.position.Goals as goal
 
-pub returns-then-is-same : goal.returns-then-is-same
-returns-then-is-same c =
+pub returns-then-is_same : goal.returns-then-is_same
+returns-then-is_same c =
     let es = c.args.index.now in
-    let here : get_or (names es) c.loop-i.i [] ≡ c.as-slice.result.now =
-    get_or-map name_of es c.loop-i.i c.index-index-i.result [] c.loop-i-test.true ∙ ap name_of (sym c.index-index-i.is) ∙ sym c.as-slice.ensures in
-    (omega (arith, c.loop-i-test.true, length-map es name_of), here ∙ c.is-same.ensures.0 c.if-is-same.true)
+    let here : get_or (names es) c.loop-i.i [] ≡ c.as_slice.result.now =
+    get_or-map name_of es c.loop-i.i c.index-index-i.result [] c.loop-i-test.true ∙ ap name_of (sym c.index-index-i.is) ∙ sym c.as_slice.ensures in
+    (omega (arith, c.loop-i-test.true, length-map es name_of), here ∙ c.is_same.ensures.0 c.if-is_same.true)
 
 pub loop-i-preserved : goal.loop-i-preserved
 loop-i-preserved c =
     let es = c.args.index.now in
-    let here : get_or (names es) c.loop-i.i [] ≡ c.as-slice.result.now =
-    get_or-map name_of es c.loop-i.i c.index-index-i.result [] c.loop-i-test.true ∙ ap name_of (sym c.index-index-i.is) ∙ sym c.as-slice.ensures in
-    below_more _ _ c.loop-i.invariant (λ e. not_from_Decides _ c.is-same.ensures c.if-is-same.false (sym here ∙ e))
+    let here : get_or (names es) c.loop-i.i [] ≡ c.as_slice.result.now =
+    get_or-map name_of es c.loop-i.i c.index-index-i.result [] c.loop-i-test.true ∙ ap name_of (sym c.index-index-i.is) ∙ sym c.as_slice.ensures in
+    below_more _ _ c.loop-i.invariant (λ e. not_from_Decides _ c.is_same.ensures c.if-is_same.false (sym here ∙ e))
 
 pub returns : goal.returns
 returns c = λ k lt. c.loop-i.invariant k (omega (arith, lt, c.loop-i-test.false, length-map c.args.index.now name_of))

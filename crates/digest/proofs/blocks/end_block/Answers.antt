@@ -14,4 +14,4 @@ returns c =
     let m = c.args.value.now in
     let j = 16 * (length m / 64) + length m % 64 / 4 in
     let within : 4 * j ≤ length m = omega arith in
-    partly_end m c.loop-t.words c.loop-t.t _ (omega arith) c.loop-t.invariant (c.end-word.ensures ∙ word_end m j _ (take_rest m (4 * j)) within)
+    partly_end m c.loop-t.words c.loop-t.t _ (omega arith) c.loop-t.invariant (c.end_word.ensures ∙ word_end m j _ (take_rest m (4 * j)) within)

@@ -17,7 +17,7 @@ unfolding digest_of
 returns g c =
     let k = g.C.Compression in
     let all = chained_all k.initial k.compressed c.args.value.now (k.hash c.loop-i.state) c.loop-i.i (omega arith) c.loop-i.invariant in
-    let words = c.words.ensures.value ∙ c.compress-end.ensures ∙ all in
-    let value = c.write-words.ensures ∙ ap (λ n. flat_map be4 c.words.result.now ++ drop (4 * n) c.args.out.now) c.words.ensures.len
+    let words = c.words.ensures.value ∙ c.compress_end.ensures ∙ all in
+    let value = c.write_words.ensures ∙ ap (λ n. flat_map be4 c.words.result.now ++ drop (4 * n) c.args.out.now) c.words.ensures.len
     ∙ ap (λ ws. flat_map be4 ws ++ drop (4 * k.size) c.args.out.now) words in
     record { value = value; padding = padding_right c.args.value.now }

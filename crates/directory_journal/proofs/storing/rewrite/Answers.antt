@@ -4,7 +4,7 @@ use Rattle.journal_record.specs.Layout.{longest_record}
 use Rattle.journal_record.specs.Records.{record_value}
 use Rattle.directory_journal.specs.Records.{all_encoded, records_of}
 use Rattle.directory_journal.proofs.Rewrites.{none_yet, entry_written, entry_fits}
-use Rattle.directory_journal.proofs.storing.rewrite.Goals.{in-Some, in-default}
+use Rattle.directory_journal.proofs.storing.rewrite.Goals.{in-Some, in_default}
 use Rattle.directory_journal.proofs.storing.rewrite.Goals as goal
 
 pub loop-item-init : goal.loop-item-init
@@ -20,13 +20,13 @@ loop-item-preserved c =
     let room : length c.args.entries.now * longest_record ≤ length c.loop-item.bytes = omega (arith, inv.2, c.requires) in
     elim c.match-append.branch [
       | in-Some w ↦
-          let p = entry_written c.args.entries.now i c.item-item.result c.item-item.is c.loop-item-test.true (record_value c.to-record.result) c.to-record.ensures
+          let p = entry_written c.args.entries.now i c.item-item.result c.item-item.is c.loop-item-test.true (record_value c.to_record.result) c.to_record.ensures
           c.loop-item.bytes c.loop-item.end inv.0 inv.1 room w.in-Some.next c.append.new.bytes w.in-Some.ensures in
           let e = w.end-is in
           (ap (λ n. take n c.append.new.bytes) e ∙ p.0, omega (arith, e, p.1), w.in-Some.ensures.3 ∙ inv.2, omega (arith, c.loop-item-test.true))
-      | in-default w ↦
-          absurd (entry_fits c.args.entries.now i c.item-item.result c.item-item.is c.loop-item-test.true (record_value c.to-record.result) c.to-record.ensures
-          c.loop-item.bytes c.loop-item.end inv.0 inv.1 room c.append.new.bytes w.in-default.ensures)
+      | in_default w ↦
+          absurd (entry_fits c.args.entries.now i c.item-item.result c.item-item.is c.loop-item-test.true (record_value c.to_record.result) c.to_record.ensures
+          c.loop-item.bytes c.loop-item.end inv.0 inv.1 room c.append.new.bytes w.in_default.ensures)
     ]
 
 pub returns : goal.returns

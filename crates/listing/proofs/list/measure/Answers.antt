@@ -9,24 +9,24 @@ use Rattle.listing.proofs.list.measure.Goals as goal
 pub loop-next-init : goal.loop-next-init
 loop-next-init g c =
     let d = c.args.directory.now in
-    let all = rest_begins (g.D.Directory.meaning d) (g.D.Directory.meaning c.next-live-next.new.directory) c.args.container c.next-live-next.result (g.met.D.Directory.limited d) c.next-live-next.ensures.same c.next-live-next.ensures.value in
+    let all = rest_begins (g.D.Directory.meaning d) (g.D.Directory.meaning c.next_live-next.new.directory) c.args.container c.next_live-next.result (g.met.D.Directory.limited d) c.next_live-next.ensures.same c.next_live-next.ensures.value in
     (refl, zero-add _ ∙ ap length all, zero-add _ ∙ ap (λ (ks : List (List ℕ)). length (listing ks)) all, omega arith)
 
-pub overflow-add-count : goal.overflow-add-count
-overflow-add-count g c =
-    let d = c.next-live-next.new.directory in
+pub overflow_add-count : goal.overflow_add-count
+overflow_add-count g c =
+    let d = c.next_live-next.new.directory in
     omega (arith, c.loop-next.invariant.1, few_keys (g.D.Directory.meaning d) (g.met.D.Directory.limited d) c.args.container)
 
-pub overflow-add-bytes-in-Some : goal.overflow-add-bytes-in-Some
-overflow-add-bytes-in-Some g c =
-    let d = c.next-live-next.new.directory in
+pub overflow_add-bytes-in-Some : goal.overflow_add-bytes-in-Some
+overflow_add-bytes-in-Some g c =
+    let d = c.next_live-next.new.directory in
     omega (arith, c.loop-next.invariant.1, c.loop-next.invariant.3, few_keys (g.D.Directory.meaning d) (g.met.D.Directory.limited d) c.args.container, c.len.ensures, length_key_bytes c.in-Some.key, c.in-Some.key.high)
 
 pub loop-next-preserved : goal.loop-next-preserved
 loop-next-preserved g c =
-    let d = c.next-live-next.new.directory in
-    let step = rest_goes_on (g.D.Directory.meaning d) (g.D.Directory.meaning c.loop-next.directory) c.args.container c.in-Some.key c.as-bytes.result.now c.loop-next.next c.next-live-next-in-Some.result c.loop-next.invariant.0 c.as-bytes.ensures c.in-Some.is c.next-live-next-in-Some.ensures.value in (
-      c.next-live-next-in-Some.ensures.same ∙ c.loop-next.invariant.0,
+    let d = c.next_live-next.new.directory in
+    let step = rest_goes_on (g.D.Directory.meaning d) (g.D.Directory.meaning c.loop-next.directory) c.args.container c.in-Some.key c.as_bytes.result.now c.loop-next.next c.next_live-next-in-Some.result c.loop-next.invariant.0 c.as_bytes.ensures c.in-Some.is c.next_live-next-in-Some.ensures.value in (
+      c.next_live-next-in-Some.ensures.same ∙ c.loop-next.invariant.0,
       omega (arith, c.loop-next.invariant.1, ap length step),
       omega (arith, c.loop-next.invariant.2, length_listing_more _ _ _ step, c.len.ensures),
       omega (arith, c.loop-next.invariant.3, c.len.ensures, length_key_bytes c.in-Some.key, c.in-Some.key.high),
@@ -34,11 +34,11 @@ loop-next-preserved g c =
 
 pub returns : goal.returns
 returns g c =
-    let d = c.next-live-next.new.directory in
+    let d = c.next_live-next.new.directory in
     let m = contents c.args.container (g.D.Directory.meaning d).entries in
-    let first = c.next-live-next.ensures.same in
+    let first = c.next_live-next.ensures.same in
     record {
-      value = measured_is c.loop-next.count c.loop-next.bytes (keys_of (g.D.Directory.meaning d) c.args.container) (keys_from m c.loop-next.next) (ap (keys_from m) c.in-default.is) c.loop-next.invariant.1 c.loop-next.invariant.2
+      value = measured_is c.loop-next.count c.loop-next.bytes (keys_of (g.D.Directory.meaning d) c.args.container) (keys_from m c.loop-next.next) (ap (keys_from m) c.in_default.is) c.loop-next.invariant.1 c.loop-next.invariant.2
           ∙ ap (λ (x : DirectoryMeaning). measured (keys_of x c.args.container)) first;
       same = c.loop-next.invariant.0 ∙ first;
     }

@@ -9,5 +9,5 @@ returns c =
     let n = length c.args.bytes.now in
     let span : at + (at + n - at) ≡ at + n = omega arith in
     let rest : drop (at + n - at) (drop at xs) ≡ drop (at + n) xs = drop-drop (at + n - at) at xs ∙ ap (λ m. drop m xs) span in
-    let written = c.copy-from-slice.ensures.after in
+    let written = c.copy_from_slice.ensures.after in
     cc

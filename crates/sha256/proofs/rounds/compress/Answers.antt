@@ -13,8 +13,8 @@ pub returns : goal.returns
 returns c =
     let turn = step round mixed in
     let start : List ℕ × List ℕ = (c.args.h, c.args.words.now) in
-    let by-16 = turned_from turn start 0 16 (turned_none turn start) c.sixteen-rounds-v.ensures in
-    let by-32 = turned_from turn start 16 16 by-16 c.sixteen-rounds-v-2.ensures in
-    let by-48 = turned_from turn start 32 16 by-32 c.sixteen-rounds-v-3.ensures in
-    let by-64 = turned_from turn start 48 16 by-48 c.sixteen-rounds-v-4.ensures in
+    let by-16 = turned_from turn start 0 16 (turned_none turn start) c.sixteen_rounds-v.ensures in
+    let by-32 = turned_from turn start 16 16 by-16 c.sixteen_rounds-v-2.ensures in
+    let by-48 = turned_from turn start 32 16 by-32 c.sixteen_rounds-v-3.ensures in
+    let by-64 = turned_from turn start 48 16 by-48 c.sixteen_rounds-v-4.ensures in
     c.add.ensures ∙ compression_window round mixed reads_sixteen 64 c.args.h c.args.words.now (lit≤ tt) c.told-words 8 _ _ by-64

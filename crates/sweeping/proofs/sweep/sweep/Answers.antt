@@ -8,9 +8,9 @@ use Rattle.sweeping.proofs.sweep.sweep.Goals as goal
 pub returns : goal.returns
 returns g c =
     let n = c.args.number in
-    let e = ap said c.at-cloud.ensures ∙ said_numbered n c.sweep-cloud.result in
+    let e = ap said c.at_cloud.ensures ∙ said_numbered n c.sweep_cloud.result in
     record {
-      chain = rw e c.sweep-cloud.ensures;
-      meaning = rw e (swept_meaning g.R.Row.clouds n (λ s. g.met.R.Row.nexting s n) (λ s. g.met.R.Row.dropping s n) c.sweep-cloud.ensures);
-      fault = c.at-cloud.ensures ∙ ap (numbered n) (sym e);
+      chain = rw e c.sweep_cloud.ensures;
+      meaning = rw e (swept_meaning g.R.Row.clouds n (λ s. g.met.R.Row.nexting s n) (λ s. g.met.R.Row.dropping s n) c.sweep_cloud.ensures);
+      fault = c.at_cloud.ensures ∙ ap (numbered n) (sym e);
     }

@@ -11,8 +11,8 @@ loop-i-preserved c = (
   read_more c.args.codes.now c.loop-i.i c.loop-i.faults c.loop-i.invariant.1 c.loop-i-test.true (omega arith) c.in-Some.fault (sym c.in-Some.ensures),
 )
 
-pub returns-in-default : goal.returns-in-default
-returns-in-default c = read_refused c.args.codes.now c.loop-i.i c.loop-i.faults c.loop-i.invariant.1 c.loop-i-test.true (sym c.in-default.ensures)
+pub returns-in_default : goal.returns-in_default
+returns-in_default c = read_refused c.args.codes.now c.loop-i.i c.loop-i.faults c.loop-i.invariant.1 c.loop-i-test.true (sym c.in_default.ensures)
 
 pub returns : goal.returns
-returns c = read_all c.args.codes.now c.loop-i.i c.loop-i.faults c.loop-i.invariant.1 c.loop-i-test.false (omega arith) c.if-codes-gt-MOST-CODES.false
+returns c = read_all c.args.codes.now c.loop-i.i c.loop-i.faults c.loop-i.invariant.1 c.loop-i-test.false (omega arith) c.if-codes-gt-MOST_CODES.false

@@ -4,14 +4,14 @@ use Rattle.cloud_log.proofs.log_cloud.LogCloud.append_dropped.Goals as goal
 
 pub unwrap-after-requires : goal.unwrap-after-requires
 unwrap-after-requires c =
-    dropping c.args.self.now c.args.name.now c.args.place c.requires.placed c.requires.room _ c.write-dropped.new.bytes c.write-dropped.result c.as-mut-slice.ensures.value c.write-dropped.ensures
+    dropping c.args.self.now c.args.name.now c.args.place c.requires.placed c.requires.room _ c.write_dropped.new.bytes c.write_dropped.result c.as_mut_slice.ensures.value c.write_dropped.ensures
 
 pub forget-requires : goal.forget-requires
 forget-requires c =
     placed_within (vec_items c.args.self.now.index) c.args.name.now (Some c.args.place) (vec_len c.args.self.now.index) c.args.self.now.index.ok.0 c.requires.placed
 
-pub invariant-of-self : goal.invariant-of-self
-invariant-of-self c =
+pub invariant_of-self : goal.invariant_of-self
+invariant_of-self c =
     let s = c.args.self.now in
     let v = c.forget.new.index in (
       s.few,
@@ -19,7 +19,7 @@ invariant-of-self c =
         s.room,
         (
           (fewer s c.args.name.now (Some c.args.place) c.requires.placed (vec_items v) (vec_len v) v.ok.0 c.forget.ensures.items, omega (arith, s.reserved, c.forget.ensures.capacity)),
-          dropping_facts s c.args.name.now c.args.place c.requires.placed c.requires.room _ c.write-dropped.new.bytes c.write-dropped.result c.as-mut-slice.ensures.value c.write-dropped.ensures c.unwrap-after.result c.unwrap-after.ensures (vec_items v) c.forget.ensures.items,
+          dropping_facts s c.args.name.now c.args.place c.requires.placed c.requires.room _ c.write_dropped.new.bytes c.write_dropped.result c.as_mut_slice.ensures.value c.write_dropped.ensures c.unwrap-after.result c.unwrap-after.ensures (vec_items v) c.forget.ensures.items,
         ),
       ),
     )
@@ -27,8 +27,8 @@ invariant-of-self c =
 pub returns : goal.returns
 returns c =
     record {
-      log = dropping_log c.args.self.now c.args.name.now c.args.place c.requires.placed c.requires.room _ c.write-dropped.new.bytes c.write-dropped.result c.as-mut-slice.ensures.value c.write-dropped.ensures c.unwrap-after.result c.unwrap-after.ensures;
-      held = dropping_held c.args.self.now c.args.name.now c.args.place c.requires.placed c.requires.room _ c.write-dropped.new.bytes c.write-dropped.result c.as-mut-slice.ensures.value c.write-dropped.ensures c.unwrap-after.result c.unwrap-after.ensures;
+      log = dropping_log c.args.self.now c.args.name.now c.args.place c.requires.placed c.requires.room _ c.write_dropped.new.bytes c.write_dropped.result c.as_mut_slice.ensures.value c.write_dropped.ensures c.unwrap-after.result c.unwrap-after.ensures;
+      held = dropping_held c.args.self.now c.args.name.now c.args.place c.requires.placed c.requires.room _ c.write_dropped.new.bytes c.write_dropped.result c.as_mut_slice.ensures.value c.write_dropped.ensures c.unwrap-after.result c.unwrap-after.ensures;
       places = refl;
       memory = refl;
     }

@@ -5,12 +5,12 @@ use Rattle.cloud_log.specs.State.{facts, sound_none, empty_meaning}
 use Rattle.cloud_log.specs.Sound.{Sound}
 use Rattle.cloud_log.proofs.log_cloud.LogCloud.new.Goals as goal
 
-pub invariant-of-result : goal.invariant-of-result
-invariant-of-result c =
+pub invariant_of-result : goal.invariant_of-result
+invariant_of-result c =
     let m = c.args.memory in
     let b = vec_items m.bytes in
-    let p = and_parts (leb ((c.args.places + 1) * 1066) (vec_len m.bytes)) (leb c.args.places (vec_capacity m.index)) (sym c.if-not-has-room.ensures) in (
-      (omega (arith, c.if-places-eq0.false), c.if-places-gt-MOST-PLACES.false),
+    let p = and_parts (leb ((c.args.places + 1) * 1066) (vec_len m.bytes)) (leb c.args.places (vec_capacity m.index)) (sym c.if-not-has_room.ensures) in (
+      (omega (arith, c.if-places-eq0.false), c.if-places-gt-MOST_PLACES.false),
       (
         leb-true _ _ p.0,
         (

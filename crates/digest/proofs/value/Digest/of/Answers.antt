@@ -5,4 +5,4 @@ use Rattle.digest.proofs.value.Digest.of.Goals as goal
 pub returns : goal.returns
 returns g c =
     let long = g.met.K.DigestKind.wide c.args.value.now in
-    kept_is (take (c.width-in-bytes.result - 0) c.digest.new.out) _ c.in-Some.ensures ∙ front_is _ _ _ c.width-in-bytes.result c.digest.ensures (long ∙ sym c.width-in-bytes.ensures)
+    kept_is (take (c.width_in_bytes.result - 0) c.digest.new.out) _ c.in-Some.ensures ∙ front_is _ _ _ c.width_in_bytes.result c.digest.ensures (long ∙ sym c.width_in_bytes.ensures)

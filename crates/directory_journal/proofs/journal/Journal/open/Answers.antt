@@ -29,6 +29,6 @@ returns-in-Ok c =
     let room : (c.args.places + 1) * longest_record ≤ length (vec_items c.args.memory.bytes) = omega (arith, c.args.memory.bytes.ok.0, c.len.ensures, c.if-len-places.false) in
     let places : capacity (table_meaning c.in-Ok.index) ≡ c.args.places = ap capacity e.1 ∙ (let z : 0 + c.args.places ≡ c.args.places = omega arith in z) in
     record {
-      value = opens_from c.args.memory c.args.places (capacity (table_meaning c.in-Ok.index)) places (can_be_opened _ _ _ e.0 room) _ c.open-with.ensures;
+      value = opens_from c.args.memory c.args.places (capacity (table_meaning c.in-Ok.index)) places (can_be_opened _ _ _ e.0 room) _ c.open_with.ensures;
       laws = journal_laws;
     }

@@ -4,8 +4,8 @@ use Rattle.std.proofs.lemmas.Slice.{overwrites}
 use Rattle.journal_record.specs.Layout.{longest_record}
 use Rattle.journal_record.proofs.buffer.Buffer.append.Goals as goal
 
-pub invariant-of-self : goal.invariant-of-self
-invariant-of-self c =
+pub invariant_of-self : goal.invariant_of-self
+invariant_of-self c =
     let b = c.args.self.now in
     let n : length (take b.len b.bytes) ≡ b.len = length-take-le b.len b.bytes (omega (arith, b.size, b.within)) in
     (omega (arith, c.requires, n), (search (rules, overwrites), tt))

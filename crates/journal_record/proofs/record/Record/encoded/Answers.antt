@@ -6,14 +6,14 @@ use Rattle.journal_record.proofs.Valid.{record_is_valid}
 use Rattle.journal_record.proofs.Lengths.{length_appended, head_most, length_container}
 use Rattle.journal_record.proofs.record.Record.encoded.Goals as goal
 
-pub append-container-requires : goal.append-container-requires
-append-container-requires c =
+pub append_container-requires : goal.append_container-requires
+append_container-requires c =
     omega (arith, ap length c.head-buffer.ensures, head_most (record_value c.args.self.now) (record_is_valid c.args.self.now))
 
-pub append-live-requires : goal.append-live-requires
-append-live-requires c =
+pub append_live-requires : goal.append_live-requires
+append_live-requires c =
     let h = head_most (record_value c.args.self.now) (record_is_valid c.args.self.now) in
-    let n = length_appended (buffered c.head-buffer.result) (container_field c.container.result) _ c.append-container.ensures in
+    let n = length_appended (buffered c.head-buffer.result) (container_field c.container.result) _ c.append_container.ensures in
     omega (arith, ap length c.head-buffer.ensures, length_container c.container.result)
 
 pub returns : goal.returns

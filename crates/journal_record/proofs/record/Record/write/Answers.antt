@@ -16,7 +16,7 @@ pub returns : goal.returns
 returns c =
     let n = c.len-len.result in
     let z : n - 0 ≡ n = omega arith in
-    let front = c.copy-from-slice.ensures.after ∙ c.as-slice.ensures in
+    let front = c.copy_from_slice.ensures.after ∙ c.as_slice.ensures in
     let rest = ap (λ m. drop m c.args.out.now) z in
     record {
       written = is_written c.args.out.now (record_value c.args.self.now) (buffered c.encoded-buffer.result) n c.encoded-buffer.ensures c.len-len.ensures _ c.if-out-len.false (λ i. front i ++ rest i);

@@ -5,10 +5,10 @@ use Rattle.locker.specs.Held.{state_of}
 use Rattle.locker.proofs.Grounds.{look_not_fetching, look_refused}
 use Rattle.locker.proofs.locker.Locker.look_again.Goals as goal
 
-pub returns-in-err-fetching : goal.returns-in-err-fetching
-returns-in-err-fetching g c =
+pub returns-in_err-fetching : goal.returns-in_err-fetching
+returns-in_err-fetching g c =
     let S : Setting = setting_of g.K.DigestKind.digested c.args.self.now.limits in
     let s : State = state_of (g.D.Directory.meaning c.args.self.now.directory) (g.R.Row.clouds c.args.self.now.row) c.args.self.now.slots in
-    let e = c.in-err-fetching.field-0.0 in
-    let ground = look_not_fetching S s c.args.party c.in-ok-party.party.number e c.in-ok-party.ensures _ c.in-err-fetching.ensures in
+    let e = c.in_err-fetching.field-0.0 in
+    let ground = look_not_fetching S s c.args.party c.in_ok-party.party.number e c.in_ok-party.ensures _ c.in_err-fetching.ensures in
     record { step = look_refused S s c.args.party _ e ground (search rules); row = refl; limits = refl }

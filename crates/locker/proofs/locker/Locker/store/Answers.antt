@@ -13,32 +13,32 @@ use Rattle.locker.proofs.Grounds.{known_party, store_not_saving}
 use Rattle.locker.proofs.Storing.{done_by, kept_by, fault_is, store_judged, store_allowed, save_there, one_more, store_refused, store_failed, store_done}
 use Rattle.locker.proofs.locker.Locker.store.Goals as goal
 
-pub returns-in-err-judge : goal.returns-in-err-judge
-returns-in-err-judge g c =
+pub returns-in_err-judge : goal.returns-in_err-judge
+returns-in_err-judge g c =
     let S : Setting = setting_of g.K.DigestKind.digested c.args.self.now.limits in
     let s : State = state_of (g.D.Directory.meaning c.args.self.now.directory) (g.R.Row.clouds c.args.self.now.row) c.args.self.now.slots in
-    let judged = store_judged S s c.args.party c.in-ok-party.party.number c.args.cloud c.args.value.now c.is-begun-begun.result c.in-ok-party.ensures c.in-ok-check-value.ensures c.in-ok-check-cloud.ensures c.is-begun-begun.ensures _ c.in-err-judge.ensures in
+    let judged = store_judged S s c.args.party c.in_ok-party.party.number c.args.cloud c.args.value.now c.is_begun-begun.result c.in_ok-party.ensures c.in_ok-check_value.ensures c.in_ok-check_cloud.ensures c.is_begun-begun.ensures _ c.in_err-judge.ensures in
     record { step = store_refused S s c.args.party c.args.cloud c.args.value.now _ _ judged (search rules); row = kept_by _ _ _ _ judged refl; limits = refl }
 
-pub returns-in-err-put-at : goal.returns-in-err-put-at
-returns-in-err-put-at g c =
+pub returns-in_err-put_at : goal.returns-in_err-put_at
+returns-in_err-put_at g c =
     let S : Setting = setting_of g.K.DigestKind.digested c.args.self.now.limits in
     let s : State = state_of (g.D.Directory.meaning c.args.self.now.directory) (g.R.Row.clouds c.args.self.now.row) c.args.self.now.slots in
     let p = c.args.party in
-    let n = c.in-ok-party.party.number in
+    let n = c.in_ok-party.party.number in
     let i = c.args.cloud in
     let v = c.args.value.now in
     let row = c.args.self.now.row in
-    let row' = c.put-at.new.row in
-    let allowed = store_allowed S s p n i v c.is-begun-begun.result c.in-ok-party.ensures c.in-ok-check-value.ensures c.in-ok-check-cloud.ensures c.is-begun-begun.ensures c.in-ok-judge.ensures in
-    let there = save_there s p n (saving_value c.in-ok-saving.saving) (known_party p n c.in-ok-party.ensures).1 c.in-ok-saving.ensures in
+    let row' = c.put_at.new.row in
+    let allowed = store_allowed S s p n i v c.is_begun-begun.result c.in_ok-party.ensures c.in_ok-check_value.ensures c.in_ok-check_cloud.ensures c.is_begun-begun.ensures c.in_ok-judge.ensures in
+    let there = save_there s p n (saving_value c.in_ok-saving.saving) (known_party p n c.in_ok-party.ensures).1 c.in_ok-saving.ensures in
     let x : SavingValue = saving_of (slot_of s p) in
     let name : List ℕ = name_of x.container x.key x.stamp in
     let bytes = ap (λ (y : SavingValue). name_of y.container y.key y.stamp) there in
-    let fault : CloudFault = c.in-err-put-at.field-0.0 in
-    let met = c.in-err-put-at.ensures in
+    let fault : CloudFault = c.in_err-put_at.field-0.0 in
+    let met = c.in_err-put_at.ensures in
     let at = (fault_is i (Err fault.cause) fault met.fault).1 in
-    let told : c.from-residual-in-err-put-at.result ≡ Err (CloudRefused fault) = search rules in
+    let told : c.from_residual-in_err-put_at.result ≡ Err (CloudRefused fault) = search rules in
     let asked : g.R.Row.puts row i name v (Err fault.cause) row' = subst (λ (m : List ℕ). g.R.Row.puts row i m v (Err fault.cause) row') bytes met.asked in
     record {
       step = store_failed S s p i v (g.R.Row.clouds row') allowed _ fault at told (g.met.R.Row.putting row i name v (Err fault.cause) row' asked);
@@ -51,19 +51,19 @@ returns g c =
     let S : Setting = setting_of g.K.DigestKind.digested c.args.self.now.limits in
     let s : State = state_of (g.D.Directory.meaning c.args.self.now.directory) (g.R.Row.clouds c.args.self.now.row) c.args.self.now.slots in
     let p = c.args.party in
-    let n = c.in-ok-party.party.number in
+    let n = c.in_ok-party.party.number in
     let i = c.args.cloud in
     let v = c.args.value.now in
     let row = c.args.self.now.row in
-    let row' = c.put-at.new.row in
-    let allowed = store_allowed S s p n i v c.is-begun-begun.result c.in-ok-party.ensures c.in-ok-check-value.ensures c.in-ok-check-cloud.ensures c.is-begun-begun.ensures c.in-ok-judge.ensures in
-    let known = known_party p n c.in-ok-party.ensures in
-    let there = save_there s p n (saving_value c.in-ok-saving.saving) known.1 c.in-ok-saving.ensures in
+    let row' = c.put_at.new.row in
+    let allowed = store_allowed S s p n i v c.is_begun-begun.result c.in_ok-party.ensures c.in_ok-check_value.ensures c.in_ok-check_cloud.ensures c.is_begun-begun.ensures c.in_ok-judge.ensures in
+    let known = known_party p n c.in_ok-party.ensures in
+    let there = save_there s p n (saving_value c.in_ok-saving.saving) known.1 c.in_ok-saving.ensures in
     let x : SavingValue = saving_of (slot_of s p) in
     let name : List ℕ = name_of x.container x.key x.stamp in
     let bytes = ap (λ (y : SavingValue). name_of y.container y.key y.stamp) there in
-    let asked : g.R.Row.puts row i name v (Ok tt) row' = subst (λ (m : List ℕ). g.R.Row.puts row i m v (Ok tt) row') bytes c.in-ok-put-at.ensures.asked in
-    let more = one_more (saving_value c.in-ok-saving.saving) x i c.args.self.now.limits.clouds c.args.self.now.limits.most c.in-ok-check-cloud.ensures there in
+    let asked : g.R.Row.puts row i name v (Ok tt) row' = subst (λ (m : List ℕ). g.R.Row.puts row i m v (Ok tt) row') bytes c.in_ok-put_at.ensures.asked in
+    let more = one_more (saving_value c.in_ok-saving.saving) x i c.args.self.now.limits.clouds c.args.self.now.limits.most c.in_ok-check_cloud.ensures there in
     let stored : saving_value c.acknowledged-saving.result ≡ acknowledged x i = c.acknowledged-saving.ensures ∙ more in
     record {
       step = store_done S s p i v (g.R.Row.clouds row') allowed c.count.result (slots_value c.turn.new.self)
@@ -74,10 +74,10 @@ returns g c =
       limits = refl;
     }
 
-pub returns-in-err-saving : goal.returns-in-err-saving
-returns-in-err-saving g c =
+pub returns-in_err-saving : goal.returns-in_err-saving
+returns-in_err-saving g c =
     let S : Setting = setting_of g.K.DigestKind.digested c.args.self.now.limits in
     let s : State = state_of (g.D.Directory.meaning c.args.self.now.directory) (g.R.Row.clouds c.args.self.now.row) c.args.self.now.slots in
-    let e = c.in-err-saving.field-0.0 in
-    let ground = store_not_saving S s c.args.party c.in-ok-party.party.number e c.in-ok-party.ensures c.args.cloud c.in-ok-check-cloud.ensures c.args.value.now _ c.in-ok-check-value.ensures c.in-err-saving.ensures in
+    let e = c.in_err-saving.field-0.0 in
+    let ground = store_not_saving S s c.args.party c.in_ok-party.party.number e c.in_ok-party.ensures c.args.cloud c.in_ok-check_cloud.ensures c.args.value.now _ c.in_ok-check_value.ensures c.in_err-saving.ensures in
     record { step = store_refused S s c.args.party c.args.cloud c.args.value.now _ e ground (search rules); row = kept_by _ _ _ _ ground refl; limits = refl }

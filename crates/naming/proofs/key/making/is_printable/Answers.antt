@@ -2,14 +2,14 @@ use Rattle.std.proofs.Common.{true, false, sym, ◌∙◌, arith}
 use Rattle.naming.proofs.Keys.{printable_more, printable_all}
 use Rattle.naming.proofs.key.making.is_printable.Goals as goal
 
-pub returns-then-not-is-visible : goal.returns-then-not-is-visible
-returns-then-not-is-visible c =
-    sym (printable_more c.args.bytes.now c.loop-byte.byte-index false (omega arith) (sym c.if-not-is-visible.ensures))
+pub returns-then-not-is_visible : goal.returns-then-not-is_visible
+returns-then-not-is_visible c =
+    sym (printable_more c.args.bytes.now c.loop-byte.byte-index false (omega arith) (sym c.if-not-is_visible.ensures))
     ∙ c.loop-byte.invariant
 
 pub loop-byte-preserved : goal.loop-byte-preserved
 loop-byte-preserved c =
-    sym (printable_more c.args.bytes.now c.loop-byte.byte-index true (omega arith) (sym c.if-not-is-visible.ensures))
+    sym (printable_more c.args.bytes.now c.loop-byte.byte-index true (omega arith) (sym c.if-not-is_visible.ensures))
     ∙ c.loop-byte.invariant
 
 pub returns : goal.returns

@@ -6,15 +6,15 @@ use Rattle.naming.specs.Names.{name_of}
 use Rattle.naming.proofs.Stamps.{stamp_is_valid}
 use Rattle.naming.proofs.name.Name.is_of.Goals as goal
 
-pub returns-in-default : goal.returns-in-default
-returns-in-default c =
-    (λ p. absurd (false≢true p), (λ named. absurd (c.in-default.ensures c.args.container (key_bytes c.args.key.now) named)))
+pub returns-in_default : goal.returns-in_default
+returns-in_default c =
+    (λ p. absurd (false≢true p), (λ named. absurd (c.in_default.ensures c.args.container (key_bytes c.args.key.now) named)))
 
 pub returns : goal.returns
 returns c =
     let k = key_bytes c.args.key.now in
     let t = c.in-Some.stamp in
-    let made = c.as-bytes.ensures ∙ c.new.ensures.value in (
-      (λ p. (stamp_value t, stamp_is_valid t, c.is-same.ensures.0 p ∙ made)),
-      (λ named. c.is-same.ensures.1 (named.2 ∙ ap (name_of c.args.container k) (c.in-Some.ensures c.args.container k named.0 named.1 named.2) ∙ sym made)),
+    let made = c.as_bytes.ensures ∙ c.new.ensures.value in (
+      (λ p. (stamp_value t, stamp_is_valid t, c.is_same.ensures.0 p ∙ made)),
+      (λ named. c.is_same.ensures.1 (named.2 ∙ ap (name_of c.args.container k) (c.in-Some.ensures c.args.container k named.0 named.1 named.2) ∙ sym made)),
     )

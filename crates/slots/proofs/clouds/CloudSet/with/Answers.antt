@@ -4,8 +4,8 @@ use Rattle.protocol.specs.Clouds.{with_cloud}
 use Rattle.slots.proofs.Sets.{with_few, with_is}
 use Rattle.slots.proofs.clouds.CloudSet.with.Goals as goal
 
-pub invariant-of-result : goal.invariant-of-result
-invariant-of-result c = (with_few c.args.self.now.bits c.args.cloud c.args.self.now.few (omega arith), tt)
+pub invariant_of-result : goal.invariant_of-result
+invariant_of-result c = (with_few c.args.self.now.bits c.args.cloud c.args.self.now.few (omega arith), tt)
 
 pub returns : goal.returns
 returns c =

@@ -3,8 +3,8 @@ use Rattle.entry.specs.Bytes.{digest_fits}
 use Rattle.slots.proofs.Digests.{kind_fits}
 use Rattle.slots.proofs.saving.Saving.begin.Goals as goal
 
-pub invariant-of-result : goal.invariant-of-result
-invariant-of-result g c =
+pub invariant_of-result : goal.invariant_of-result
+invariant_of-result g c =
     let kind = g.met.K.DigestKind in
     let value = c.args.value.now in
     let fits = kind_fits (g.K.DigestKind.digested value) g.K.DigestKind.width kind.widths (kind.wide value) (kind.bytes value) in

@@ -2,11 +2,11 @@ use Rattle.std.proofs.Common.{arith}
 use Rattle.cloud_fixed.proofs.Effects.{undropped, dropped, dropped_different}
 use Rattle.cloud_fixed.proofs.fixed.calls.FixedCloudCloud.drop.Goals as goal
 
-pub returns-in-default : goal.returns-in-default
-returns-in-default c = undropped _ _ _ _ c.deref.ensures.value c.in-default.ensures
+pub returns-in_default : goal.returns-in_default
+returns-in_default c = undropped _ _ _ _ c.deref.ensures.value c.in_default.ensures
 
-pub invariant-of-self : goal.invariant-of-self
-invariant-of-self c =
+pub invariant_of-self : goal.invariant_of-self
+invariant_of-self c =
     let s = c.args.self.now in (
       dropped_different _ s.limit _ _ c.deref.ensures.value s.distinct c.in-Some.i c.in-Some.ensures c.remove.result c.remove.ensures.value _ c.remove.ensures.items,
       (omega arith, (omega arith, (s.some, (s.few, tt)))),

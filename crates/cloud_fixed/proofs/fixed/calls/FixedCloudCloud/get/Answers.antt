@@ -3,8 +3,8 @@ use Rattle.cloud.specs.Outcomes.{over}
 use Rattle.cloud_fixed.proofs.Effects.{unread, unfit, read}
 use Rattle.cloud_fixed.proofs.fixed.calls.FixedCloudCloud.get.Goals as goal
 
-pub returns-in-default : goal.returns-in-default
-returns-in-default c = unread _ _ _ _ c.deref.ensures.value c.in-default.ensures _
+pub returns-in_default : goal.returns-in_default
+returns-in_default c = unread _ _ _ _ c.deref.ensures.value c.in_default.ensures _
 
 pub returns-then-value-part : goal.returns-then-value-part
 returns-then-value-part c =
@@ -15,4 +15,4 @@ pub returns : goal.returns
 returns c =
     read _ _ _ _ c.deref.ensures.value c.args.self.now.distinct c.in-Some.i c.in-Some.ensures c.index.result.now c.index.ensures
     _ (omega (arith, ap length c.value-value.ensures))
-    _ _ (ap length c.value-value.ensures) (c.write-front.ensures ∙ ap (λ value. over value c.args.part.now) c.value-value.ensures)
+    _ _ (ap length c.value-value.ensures) (c.write_front.ensures ∙ ap (λ value. over value c.args.part.now) c.value-value.ensures)

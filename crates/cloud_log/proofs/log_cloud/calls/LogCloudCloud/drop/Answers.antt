@@ -8,15 +8,15 @@ use Rattle.cloud.proofs.Outcomes.{drop_missing}
 use Rattle.cloud_log.specs.Calls.{not_held, drop_ok, still_logged}
 use Rattle.cloud_log.proofs.log_cloud.calls.LogCloudCloud.drop.Goals as goal
 
-pub returns-in-default : goal.returns-in-default
-returns-in-default c =
+pub returns-in_default : goal.returns-in_default
+returns-in_default c =
     record {
-      outcome = drop_missing (log_meaning c.args.self.now).held (log_meaning c.args.self.now).free c.args.name.now (not_held c.args.self.now c.args.name.now _ c.as-slice.ensures.value c.in-default.ensures);
+      outcome = drop_missing (log_meaning c.args.self.now).held (log_meaning c.args.self.now).free c.args.name.now (not_held c.args.self.now c.args.name.now _ c.as_slice.ensures.value c.in_default.ensures);
       logged = record { same_memory = refl; appended = refl };
     }
 
-pub make-room-requires : goal.make-room-requires
-make-room-requires c = omega (arith, placed_short c.as-slice.result.now c.args.name.now c.in-Some.place c.in-Some.ensures)
+pub make_room-requires : goal.make_room-requires
+make_room-requires c = omega (arith, placed_short c.as_slice.result.now c.args.name.now c.in-Some.place c.in-Some.ensures)
 
 pub returns : goal.returns
 returns c =
@@ -24,8 +24,8 @@ returns c =
     let n = c.args.name.now in
     record {
       outcome =
-          drop_ok s n _ c.as-slice.ensures.value c.in-Some.place c.in-Some.ensures c.append-dropped.new.self
-          (c.append-dropped.ensures.held ∙ ap (λ m. remove m n) c.make-room.ensures.same_held)
-          (c.append-dropped.ensures.places ∙ c.make-room.ensures.same_places);
-      logged = still_logged s c.make-room.new.self c.append-dropped.new.self _ c.make-room.ensures (dropped n) (length_dropped n) c.append-dropped.ensures.memory c.append-dropped.ensures.log;
+          drop_ok s n _ c.as_slice.ensures.value c.in-Some.place c.in-Some.ensures c.append_dropped.new.self
+          (c.append_dropped.ensures.held ∙ ap (λ m. remove m n) c.make_room.ensures.same_held)
+          (c.append_dropped.ensures.places ∙ c.make_room.ensures.same_places);
+      logged = still_logged s c.make_room.new.self c.append_dropped.new.self _ c.make_room.ensures (dropped n) (length_dropped n) c.append_dropped.ensures.memory c.append_dropped.ensures.log;
     }

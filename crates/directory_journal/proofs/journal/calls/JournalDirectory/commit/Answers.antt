@@ -25,12 +25,12 @@ store-self-requires c =
     let t = c.commit-answer.new.self in
     let same = ap capacity c.commit-answer.ensures.after ∙ capacity_kept (table_meaning j.index) (ascending_gathered (pairs (table_entries j.index))) _ _ _ in
     record {
-      within = omega (arith, j.within, c.as-mut-slice.ensures.len);
-      room = omega (arith, j.room, same, table_capacity t, t.used, t.entries.ok.0, c.as-mut-slice.ensures.len, ap length c.entries.ensures);
+      within = omega (arith, j.within, c.as_mut_slice.ensures.len);
+      room = omega (arith, j.room, same, table_capacity t, t.used, t.entries.ok.0, c.as_mut_slice.ensures.len, ap length c.entries.ensures);
     }
 
-pub invariant-of-self : goal.invariant-of-self
-invariant-of-self c =
+pub invariant_of-self : goal.invariant_of-self
+invariant_of-self c =
     let j = c.args.self.now in
     let m = table_meaning j.index in
     let t = c.commit-answer.new.self in
@@ -40,7 +40,7 @@ invariant-of-self c =
     let accepting : accepts m r ≡ true = rw (sym c.commit-answer.ensures.value ∙ c.in-Committed.is) refl in
     let end = c.store-self.result in
     let bytes = c.store-self.new.bytes in
-    let s₁ = subst (λ (xs : List ℕ). Stored xs j.used (record_value c.new-record.result) (records_of c.entries.result.now) end bytes) c.as-mut-slice.ensures.value c.store-self.ensures in
+    let s₁ = subst (λ (xs : List ℕ). Stored xs j.used (record_value c.new-record.result) (records_of c.entries.result.now) end bytes) c.as_mut_slice.ensures.value c.store-self.ensures in
     let s₂ = subst (λ (xs : List KeyedEntry). Stored (vec_items j.bytes) j.used (record_value c.new-record.result) (records_of xs) end bytes) c.entries.ensures s₁ in
     let stored = subst (λ q. Stored (vec_items j.bytes) j.used q (records_of (table_entries t)) end bytes) c.new-record.ensures.value s₂ in
     let long : length bytes ≡ vec_len j.bytes = stored.size ∙ sym j.bytes.ok.0 in
@@ -48,10 +48,10 @@ invariant-of-self c =
     let again = ap (λ n. replay n (vec_items (with_items j.bytes bytes))) same ∙ ap (replay (capacity m)) (with_items_is j.bytes bytes long) ∙ replays in
     (omega (arith, same, j.room), (omega (arith, long, stored.within), (saying _ (table_meaning t) end again, tt)))
 
-pub invariant-of-self-in-default : goal.invariant-of-self-in-default
-invariant-of-self-in-default c =
+pub invariant_of-self-in_default : goal.invariant_of-self-in_default
+invariant_of-self-in_default c =
     let j = c.args.self.now in
-    let e = c.commit-answer.ensures.after ∙ refused_leaves (table_meaning j.index) _ _ _ c.commit-answer.result c.commit-answer.ensures.value c.in-default.not-Committed in (
+    let e = c.commit-answer.ensures.after ∙ refused_leaves (table_meaning j.index) _ _ _ c.commit-answer.result c.commit-answer.ensures.value c.in_default.not-Committed in (
       subst (λ q. (capacity q + 1) * longest_record ≤ vec_len j.bytes) (sym e) j.room,
       (j.within, (subst (λ q. says (replay (capacity q) (vec_items j.bytes)) q j.used ≡ true) (sym e) j.replays, tt)),
     )

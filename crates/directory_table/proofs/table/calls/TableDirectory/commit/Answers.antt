@@ -7,11 +7,11 @@ use Rattle.directory_table.proofs.table.calls.TableDirectory.commit.Goals as goa
 
 -- ---- a new key
 
-pub invariant-of-self : goal.invariant-of-self
-invariant-of-self c =
+pub invariant_of-self : goal.invariant_of-self
+invariant_of-self c =
     let s = c.args.self.now in
-    let room = room_for_new _ (entry_value c.args.entry.now) (sym c.commit-answer-answer.ensures ∙ c.in-Committed.is) in (
-      added_different _ s.places _ _ _ c.deref.ensures.value c.in-default.ensures s.distinct _ c.new-keyed.result c.new-keyed.ensures _ c.push-reserved.ensures.items,
+    let room = room_for_new _ (entry_value c.args.entry.now) (sym c.commit_answer-answer.ensures ∙ c.in-Committed.is) in (
+      added_different _ s.places _ _ _ c.deref.ensures.value c.in_default.ensures s.distinct _ c.new-keyed.result c.new-keyed.ensures _ c.push_reserved.ensures.items,
       (omega (arith, room), (omega arith, (s.some, (s.few, tt)))),
     )
 
@@ -19,20 +19,20 @@ pub returns-in-Committed : goal.returns-in-Committed
 returns-in-Committed c =
     let s = c.args.self.now in
     let free : s.places - c.len.result ≡ s.places - length (table_entries s) = omega (arith, s.entries.ok.0) in
-    let p = added _ s.places _ _ _ c.deref.ensures.value c.in-default.ensures _ _ _ (free, c.commit-answer-answer.ensures) c.in-Committed.is s.distinct c.new-keyed.result c.new-keyed.ensures _ c.push-reserved.ensures.items in
+    let p = added _ s.places _ _ _ c.deref.ensures.value c.in_default.ensures _ _ _ (free, c.commit_answer-answer.ensures) c.in-Committed.is s.distinct c.new-keyed.result c.new-keyed.ensures _ c.push_reserved.ensures.items in
     record { value = p.0; after = p.1 }
 
-pub returns-in-default-answer : goal.returns-in-default-answer
-returns-in-default-answer c =
+pub returns-in_default-answer : goal.returns-in_default-answer
+returns-in_default-answer c =
     let s = c.args.self.now in
     let free : s.places - c.len.result ≡ s.places - length (table_entries s) = omega (arith, s.entries.ok.0) in
-    let p = not_added _ s.places _ _ _ c.deref.ensures.value c.in-default.ensures _ _ _ (free, c.commit-answer-answer.ensures) c.in-default-answer.not-Committed in
+    let p = not_added _ s.places _ _ _ c.deref.ensures.value c.in_default.ensures _ _ _ (free, c.commit_answer-answer.ensures) c.in_default-answer.not-Committed in
     record { value = p.0; after = p.1 }
 
 -- ---- a key with an entry
 
-pub invariant-of-self-in-Committed-answer : goal.invariant-of-self-in-Committed-answer
-invariant-of-self-in-Committed-answer c =
+pub invariant_of-self-in-Committed-answer : goal.invariant_of-self-in-Committed-answer
+invariant_of-self-in-Committed-answer c =
     let s = c.args.self.now in (
       replaced_different _ s.places _ _ _ c.deref.ensures.value s.distinct c.in-Some.i c.in-Some.ensures c.index.result.now c.index.ensures _ c.new-keyed.result c.new-keyed.ensures,
       (s.used, (s.reserved, (s.some, (s.few, tt)))),
@@ -42,12 +42,12 @@ pub returns-in-Committed-answer : goal.returns-in-Committed-answer
 returns-in-Committed-answer c =
     let s = c.args.self.now in
     let free : s.places - c.len.result ≡ s.places - length (table_entries s) = omega (arith, s.entries.ok.0) in
-    let p = replaced _ s.places _ _ _ c.deref.ensures.value s.distinct c.in-Some.i c.in-Some.ensures c.index.result.now c.index.ensures _ _ _ (free, c.commit-answer-answer-2.ensures) c.in-Committed-answer.is c.new-keyed.result c.new-keyed.ensures in
+    let p = replaced _ s.places _ _ _ c.deref.ensures.value s.distinct c.in-Some.i c.in-Some.ensures c.index.result.now c.index.ensures _ _ _ (free, c.commit_answer-answer-2.ensures) c.in-Committed-answer.is c.new-keyed.result c.new-keyed.ensures in
     record { value = p.0; after = p.1 }
 
-pub returns-in-default-answer-2 : goal.returns-in-default-answer-2
-returns-in-default-answer-2 c =
+pub returns-in_default-answer-2 : goal.returns-in_default-answer-2
+returns-in_default-answer-2 c =
     let s = c.args.self.now in
     let free : s.places - c.len.result ≡ s.places - length (table_entries s) = omega (arith, s.entries.ok.0) in
-    let p = not_replaced _ s.places _ _ _ c.deref.ensures.value s.distinct c.in-Some.i c.in-Some.ensures c.index.result.now c.index.ensures _ _ _ (free, c.commit-answer-answer-2.ensures) c.in-default-answer-2.not-Committed in
+    let p = not_replaced _ s.places _ _ _ c.deref.ensures.value s.distinct c.in-Some.i c.in-Some.ensures c.index.result.now c.index.ensures _ _ _ (free, c.commit_answer-answer-2.ensures) c.in_default-answer-2.not-Committed in
     record { value = p.0; after = p.1 }

@@ -15,16 +15,18 @@ close_up-self-requires c =
 
 pub invariant_of-self : goal.invariant_of-self
 invariant_of-self c =
-    let s = c.args.self.now in (
-      s.few,
-      (
-        s.room,
-        (
-          s.reserved,
-          closed_facts s _ c.close_up-self.new.bytes _ c.close_up-self.new.index c.close_up-self.result c.as_mut_slice.ensures.value c.as_mut_slice-then-len-self.ensures.value (omega arith) (omega arith) c.close_up-self.ensures,
-        ),
-      ),
-    )
+    let s = c.args.self.now in 
+    let facts = closed_facts s _ c.close_up-self.new.bytes _ c.close_up-self.new.index c.close_up-self.result c.as_mut_slice.ensures.value c.as_mut_slice-then-len-self.ensures.value (omega arith) (omega arith) c.close_up-self.ensures in record {
+      few = s.few;
+      room = s.room;
+      reserved = s.reserved;
+      within = facts.0;
+      encoded = facts.1.0;
+      valid = facts.1.1.0;
+      ordered = facts.1.1.1.0;
+      different = facts.1.1.1.1.0;
+      same = facts.1.1.1.1.1.0;
+    }
 
 pub returns-then-len-self : goal.returns-then-len-self
 returns-then-len-self c =

@@ -9,16 +9,18 @@ pub invariant_of-result : goal.invariant_of-result
 invariant_of-result c =
     let m = c.args.memory in
     let b = vec_items m.bytes in
-    let p = and_parts (leb ((c.args.places + 1) * 1066) (vec_len m.bytes)) (leb c.args.places (vec_capacity m.index)) (sym c.if-not-has_room.ensures) in (
-      (omega (arith, c.if-places-eq0.false), c.if-places-gt-MOST_PLACES.false),
-      (
-        leb-true _ _ p.0,
-        (
-          (omega (arith, c.clear.ensures.len), omega (arith, leb-true _ _ p.1, c.clear.ensures.capacity)),
-          facts _ b 0 (vec_items c.clear.new.self) m.bytes.ok.0 (subst (λ x. Sound b 0 x) (sym c.clear.ensures.items) (sound_none b)),
-        ),
-      ),
-    )
+    let p = and_parts (leb ((c.args.places + 1) * 1066) (vec_len m.bytes)) (leb c.args.places (vec_capacity m.index)) (sym c.if-not-has_room.ensures) in 
+    let facts = facts _ b 0 (vec_items c.clear.new.self) m.bytes.ok.0 (subst (λ x. Sound b 0 x) (sym c.clear.ensures.items) (sound_none b)) in record {
+      few = (omega (arith, c.if-places-eq0.false), c.if-places-gt-MOST_PLACES.false);
+      room = leb-true _ _ p.0;
+      reserved = (omega (arith, c.clear.ensures.len), omega (arith, leb-true _ _ p.1, c.clear.ensures.capacity));
+      within = facts.0;
+      encoded = facts.1.0;
+      valid = facts.1.1.0;
+      ordered = facts.1.1.1.0;
+      different = facts.1.1.1.1.0;
+      same = facts.1.1.1.1.1.0;
+    }
 
 pub returns : goal.returns
 returns c = (grind (arith, nat_tests), empty_meaning c.args.places, refl)

@@ -16,7 +16,11 @@ invariant_of-result c =
     let value = c.in-Ok.ensures.value in
     let bytes = ap (replay_from first 0 0) (sym c.as_slice.ensures.value) in
     let says = saying _ after c.in-Ok.used (from_empty first after (vec_items c.args.bytes) c.requires.empty same ∙ bytes ∙ value.0) in
-    (omega (arith, same, c.requires.room), (omega (arith, value.1, c.as_slice.ensures.len), (says, tt)))
+    record {
+      room = omega (arith, same, c.requires.room);
+      within = omega (arith, value.1, c.as_slice.ensures.len);
+      replays = says;
+    }
 
 pub returns-in-Err : goal.returns-in-Err
 returns-in-Err c =

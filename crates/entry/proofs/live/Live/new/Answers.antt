@@ -9,5 +9,10 @@ returns-in_default c = and_right _ _ (no_digest_from_slice c.args.digest.now (sy
 
 pub invariant_of-result : goal.invariant_of-result
 invariant_of-result c =
-    let e = digest_from_slice c.args.digest.now (digest_bytes c.in-Some.digest) c.type-inv.digest c.in-Some.ensures in
-    (c.if-clouds-lt1.false, (c.if-clouds-gt-ALL_CLOUDS.false, (c.if-size-gt-LONGEST_VALUE.false, (e.1, tt))))
+    let e = digest_from_slice c.args.digest.now (digest_bytes c.in-Some.digest) c.type_inv.digest c.in-Some.ensures in
+    record {
+      listed = c.if-clouds-lt1.false;
+      few = c.if-clouds-gt-ALL_CLOUDS.false;
+      sized = c.if-size-gt-LONGEST_VALUE.false;
+      wide = e.1;
+    }

@@ -8,7 +8,10 @@ pub invariant_of-self : goal.invariant_of-self
 invariant_of-self c =
     let b = c.args.self.now in
     let n : length (take b.len b.bytes) ≡ b.len = length-take-le b.len b.bytes (omega (arith, b.size, b.within)) in
-    (omega (arith, c.requires, n), (search (rules, overwrites), tt))
+    record {
+      within = omega (arith, c.requires, n);
+      size = search (rules, overwrites);
+    }
 
 pub returns : goal.returns
 returns c = search (rules, overwrites)

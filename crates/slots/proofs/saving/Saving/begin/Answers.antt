@@ -8,4 +8,9 @@ invariant_of-result g c =
     let kind = g.met.K.DigestKind in
     let value = c.args.value.now in
     let fits = kind_fits (g.K.DigestKind.digested value) g.K.DigestKind.width kind.widths (kind.wide value) (kind.bytes value) in
-    (omega arith, (omega arith, (omega arith, (subst (λ (d : List ℕ). digest_fits d ≡ true) (sym c.of-digest.ensures) fits, tt))))
+    record {
+      numbered = omega arith;
+      written = omega arith;
+      sized = omega arith;
+      wide = subst (λ (d : List ℕ). digest_fits d ≡ true) (sym c.of-digest.ensures) fits;
+    }

@@ -7,10 +7,13 @@ returns-in_default c = undropped _ _ _ _ c.deref.ensures.value c.in_default.ensu
 
 pub invariant_of-self : goal.invariant_of-self
 invariant_of-self c =
-    let s = c.args.self.now in (
-      dropped_different _ s.limit _ _ c.deref.ensures.value s.distinct c.in-Some.i c.in-Some.ensures c.remove.result c.remove.ensures.value _ c.remove.ensures.items,
-      (omega arith, (omega arith, (s.some, (s.few, tt)))),
-    )
+    let s = c.args.self.now in record {
+      distinct = dropped_different _ s.limit _ _ c.deref.ensures.value s.distinct c.in-Some.i c.in-Some.ensures c.remove.result c.remove.ensures.value _ c.remove.ensures.items;
+      used = omega arith;
+      reserved = omega arith;
+      some = s.some;
+      few = s.few;
+    }
 
 pub returns : goal.returns
 returns c =

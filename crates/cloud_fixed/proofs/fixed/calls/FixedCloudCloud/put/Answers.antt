@@ -9,10 +9,13 @@ returns-then-name-gt-LONGEST_NAME c =
 
 pub invariant_of-self : goal.invariant_of-self
 invariant_of-self c =
-    let s = c.args.self.now in (
-      replaced_different _ s.limit _ _ c.deref.ensures.value s.distinct c.in-Some.i c.in-Some.ensures c.index_mut.result.now c.index_mut.ensures.value _ c.new.result c.new.ensures,
-      (s.used, (s.reserved, (s.some, (s.few, tt)))),
-    )
+    let s = c.args.self.now in record {
+      distinct = replaced_different _ s.limit _ _ c.deref.ensures.value s.distinct c.in-Some.i c.in-Some.ensures c.index_mut.result.now c.index_mut.ensures.value _ c.new.result c.new.ensures;
+      used = s.used;
+      reserved = s.reserved;
+      some = s.some;
+      few = s.few;
+    }
 
 pub returns-in-Some : goal.returns-in-Some
 returns-in-Some c =
@@ -26,10 +29,13 @@ returns-then-len-self c =
 
 pub invariant_of-self-2 : goal.invariant_of-self-2
 invariant_of-self-2 c =
-    let s = c.args.self.now in (
-      added_different _ s.limit _ _ c.deref.ensures.value c.in_default.ensures s.distinct _ c.new-2.result c.new-2.ensures _ c.push_reserved.ensures.items,
-      (omega arith, (omega arith, (s.some, (s.few, tt)))),
-    )
+    let s = c.args.self.now in record {
+      distinct = added_different _ s.limit _ _ c.deref.ensures.value c.in_default.ensures s.distinct _ c.new-2.result c.new-2.ensures _ c.push_reserved.ensures.items;
+      used = omega arith;
+      reserved = omega arith;
+      some = s.some;
+      few = s.few;
+    }
 
 pub returns : goal.returns
 returns c =

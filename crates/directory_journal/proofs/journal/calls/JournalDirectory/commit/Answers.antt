@@ -46,12 +46,17 @@ invariant_of-self c =
     let long : length bytes ≡ vec_len j.bytes = stored.size ∙ sym j.bytes.ok.0 in
     let replays = stored_replays (capacity m) (vec_items j.bytes) m j.used (said _ m j.used j.replays) (omega (arith, j.within, j.bytes.ok.0)) r valid accepting t c.commit-answer.ensures.after same end bytes stored in
     let again = ap (λ n. replay n (vec_items (with_items j.bytes bytes))) same ∙ ap (replay (capacity m)) (with_items_is j.bytes bytes long) ∙ replays in
-    (omega (arith, same, j.room), (omega (arith, long, stored.within), (saying _ (table_meaning t) end again, tt)))
+    record {
+      room = omega (arith, same, j.room);
+      within = omega (arith, long, stored.within);
+      replays = saying _ (table_meaning t) end again;
+    }
 
 pub invariant_of-self-in_default : goal.invariant_of-self-in_default
 invariant_of-self-in_default c =
     let j = c.args.self.now in
-    let e = c.commit-answer.ensures.after ∙ refused_leaves (table_meaning j.index) _ _ _ c.commit-answer.result c.commit-answer.ensures.value c.in_default.not-Committed in (
-      subst (λ q. (capacity q + 1) * longest_record ≤ vec_len j.bytes) (sym e) j.room,
-      (j.within, (subst (λ q. says (replay (capacity q) (vec_items j.bytes)) q j.used ≡ true) (sym e) j.replays, tt)),
-    )
+    let e = c.commit-answer.ensures.after ∙ refused_leaves (table_meaning j.index) _ _ _ c.commit-answer.result c.commit-answer.ensures.value c.in_default.not-Committed in record {
+      room = subst (λ q. (capacity q + 1) * longest_record ≤ vec_len j.bytes) (sym e) j.room;
+      within = j.within;
+      replays = subst (λ q. says (replay (capacity q) (vec_items j.bytes)) q j.used ≡ true) (sym e) j.replays;
+    }

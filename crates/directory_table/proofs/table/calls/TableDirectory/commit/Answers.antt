@@ -10,10 +10,13 @@ use Rattle.directory_table.proofs.table.calls.TableDirectory.commit.Goals as goa
 pub invariant_of-self : goal.invariant_of-self
 invariant_of-self c =
     let s = c.args.self.now in
-    let room = room_for_new _ (entry_value c.args.entry.now) (sym c.commit_answer-answer.ensures ∙ c.in-Committed.is) in (
-      added_different _ s.places _ _ _ c.deref.ensures.value c.in_default.ensures s.distinct _ c.new-keyed.result c.new-keyed.ensures _ c.push_reserved.ensures.items,
-      (omega (arith, room), (omega arith, (s.some, (s.few, tt)))),
-    )
+    let room = room_for_new _ (entry_value c.args.entry.now) (sym c.commit_answer-answer.ensures ∙ c.in-Committed.is) in record {
+      distinct = added_different _ s.places _ _ _ c.deref.ensures.value c.in_default.ensures s.distinct _ c.new-keyed.result c.new-keyed.ensures _ c.push_reserved.ensures.items;
+      used = omega (arith, room);
+      reserved = omega arith;
+      some = s.some;
+      few = s.few;
+    }
 
 pub returns-in-Committed : goal.returns-in-Committed
 returns-in-Committed c =
@@ -33,10 +36,13 @@ returns-in_default-answer c =
 
 pub invariant_of-self-in-Committed-answer : goal.invariant_of-self-in-Committed-answer
 invariant_of-self-in-Committed-answer c =
-    let s = c.args.self.now in (
-      replaced_different _ s.places _ _ _ c.deref.ensures.value s.distinct c.in-Some.i c.in-Some.ensures c.index.result.now c.index.ensures _ c.new-keyed.result c.new-keyed.ensures,
-      (s.used, (s.reserved, (s.some, (s.few, tt)))),
-    )
+    let s = c.args.self.now in record {
+      distinct = replaced_different _ s.places _ _ _ c.deref.ensures.value s.distinct c.in-Some.i c.in-Some.ensures c.index.result.now c.index.ensures _ c.new-keyed.result c.new-keyed.ensures;
+      used = s.used;
+      reserved = s.reserved;
+      some = s.some;
+      few = s.few;
+    }
 
 pub returns-in-Committed-answer : goal.returns-in-Committed-answer
 returns-in-Committed-answer c =

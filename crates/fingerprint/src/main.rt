@@ -1,5 +1,6 @@
 //! Prints the SHA-256 of each file, or with `--sha1` the SHA-1, in the lines of `sha256sum` and `sha1sum`.
 #![tactic(auto)]
+
 use digest::kind::DigestKind;
 use options::Options;
 use std::io::{Read, Write};

@@ -1,6 +1,7 @@
 //! One task from beginning to end: a tractor's offset is kept on two of three clouds, one of them fails, and the
 //! offset is read back from the other and checked.
 #![tactic(auto)]
+
 use anyhow::anyhow;
 use digest::value::Digest;
 use naming::key::Key;

@@ -13,7 +13,7 @@ forget-requires c =
 pub invariant_of-self : goal.invariant_of-self
 invariant_of-self c =
     let s = c.args.self.now in
-    let v = c.forget.new.index in 
+    let v = c.forget.new.index in
     let facts = dropping_facts s c.args.name.now c.args.place c.requires.placed c.requires.room _ c.write_dropped.new.bytes c.write_dropped.result c.as_mut_slice.ensures.value c.write_dropped.ensures c.unwrap-after.result c.unwrap-after.ensures (vec_items v) c.forget.ensures.items in record {
       few = s.few;
       room = s.room;

@@ -19,9 +19,9 @@ push_reserved-requires c =
 pub invariant_of-self : goal.invariant_of-self
 invariant_of-self c =
     let s = c.args.self.now in
-    let v = c.forget.new.index in 
+    let v = c.forget.new.index in
     let facts = storing_facts s c.args.name.now c.args.value.now c.args.place c.requires.placed c.requires.short.0 c.requires.short.1 c.requires.room _ c.write_stored.new.bytes c.write_stored.result c.as_mut_slice.ensures.value c.write_stored.ensures.written c.unwrap-end.result c.unwrap-end.ensures
-              (vec_items v) (vec_items c.push_reserved.new.self) (record { name = c.new.result; offset = s.used; size = length c.args.value.now }) c.forget.ensures.items c.push_reserved.ensures.items c.new.ensures refl refl in record {
+    (vec_items v) (vec_items c.push_reserved.new.self) (record { name = c.new.result; offset = s.used; size = length c.args.value.now }) c.forget.ensures.items c.push_reserved.ensures.items c.new.ensures refl refl in record {
       few = s.few;
       room = s.room;
       reserved = (omega (arith, one_more s c.args.name.now c.args.place c.requires.placed (vec_items v) (vec_len v) v.ok.0 c.forget.ensures.items c.requires.free, c.push_reserved.ensures.len), omega (arith, s.reserved, c.forget.ensures.capacity, c.push_reserved.ensures.capacity));

@@ -15,7 +15,7 @@ close_up-self-requires c =
 
 pub invariant_of-self : goal.invariant_of-self
 invariant_of-self c =
-    let s = c.args.self.now in 
+    let s = c.args.self.now in
     let facts = closed_facts s _ c.close_up-self.new.bytes _ c.close_up-self.new.index c.close_up-self.result c.as_mut_slice.ensures.value c.as_mut_slice-then-len-self.ensures.value (omega arith) (omega arith) c.close_up-self.ensures in record {
       few = s.few;
       room = s.room;

@@ -9,7 +9,7 @@ pub invariant_of-result : goal.invariant_of-result
 invariant_of-result c =
     let m = c.args.memory in
     let b = vec_items m.bytes in
-    let p = and_parts (leb ((c.args.places + 1) * 1066) (vec_len m.bytes)) (leb c.args.places (vec_capacity m.index)) (sym c.if-not-has_room.ensures) in 
+    let p = and_parts (leb ((c.args.places + 1) * 1066) (vec_len m.bytes)) (leb c.args.places (vec_capacity m.index)) (sym c.if-not-has_room.ensures) in
     let facts = facts _ b 0 (vec_items c.clear.new.self) m.bytes.ok.0 (subst (λ x. Sound b 0 x) (sym c.clear.ensures.items) (sound_none b)) in record {
       few = (omega (arith, c.if-places-eq0.false), c.if-places-gt-MOST_PLACES.false);
       room = leb-true _ _ p.0;

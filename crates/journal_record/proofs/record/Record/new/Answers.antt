@@ -5,4 +5,4 @@ use Rattle.journal_record.proofs.record.Record.new.Goals as goal
 
 pub returns : goal.returns
 returns c =
-    record { value = refl; valid = record { container-fits = omega (arith, c.ranges.container.fits); key-valid = key_is_valid c.args.key; entry-valid = entry_is_valid c.args.entry } }
+    record { value = refl; valid = record { container_fits = omega (arith, c.ranges.container.fits); key_valid = key_is_valid c.args.key; entry_valid = entry_is_valid c.args.entry } }

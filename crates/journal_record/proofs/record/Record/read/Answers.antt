@@ -24,7 +24,7 @@ returns-in_err-record c =
     record { value = rw c.from_residual-in_err-record.ensures (sym e); only = only_records_are_read }
 
 -- what stands at the front of the bytes
-parsed : (c : goal.In-ok-record) → parse c.args.bytes.now ≡ Some (fields_of c.in_ok-fields.fields, c.in_ok-fields.rest.now)
+parsed : (c : goal.In_ok-record) → parse c.args.bytes.now ≡ Some (fields_of c.in_ok-fields.fields, c.in_ok-fields.rest.now)
 parsed c =
     let h : 2 ≤ length c.args.bytes.now = search rules in
     within_limits c.args.bytes.now h _ _ c.in_ok-fields.ensures c.in_ok-record.ensures.0

@@ -105,7 +105,7 @@ impl Slot {
 
     /// Whether this is the value of the save that is under way. Its digest is computed only where its size is right.
     pub(crate) fn is_begun<K: DigestKind>(&self, value: &[u8]) -> bool
-        ensures { result ≡ of_saving (slot_value self.now) (is_begun_value (digesting digested) value.now) }
+        ensures { result ≡ of_saving (slot_value self.now) (is_begun_value (digesting K.digested) value.now) }
     {
         match &self.doing {
             Doing::Saving(saving) => saving.is_of::<K>(value),

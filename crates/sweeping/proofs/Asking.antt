@@ -20,7 +20,7 @@ length_fits {ms} {ms'} {i} c =
     ⊎_elim (λ (h : i < length ms). (c.here h).within) (λ (h : length ms ≤ i). rw (c.unknown h).0 tt) (cases_lt i (length ms))
 
 module _ {X : Type 0} (nexts : X → List ℕ → List ℕ → NextLength → List ℕ → X → Type 0) {a b : X} {above place place' : List ℕ} {o : Option ℕ} {len : ℕ} where
-  pub name_read : nexts a above place (Ok o) place' b → IfOk {Y = Cause} (Ok o) (λ o. IfSome o (λ n. n ≤ longest_name)) → o ≡ Some len → (last : List ℕ) → above ≡ last → (bytes : List ℕ) → bytes ≡ take len place'
+  pub name_read : nexts a above place (Ok o) place' b → IfOk {E = Cause} (Ok o) (λ o. IfSome o (λ n. n ≤ longest_name)) → o ≡ Some len → (last : List ℕ) → above ≡ last → (bytes : List ℕ) → bytes ≡ take len place'
       → (r : Option Name) → MatchOption r (longest_name < length bytes) (λ n. (length bytes ≤ longest_name) × (name_bytes n ≡ bytes)) → Asked nexts a last (Ok r) b
   name_read asked fits is last from bytes e None long =
       let f : len ≤ longest_name = rw is at fits in

@@ -70,7 +70,7 @@ impl Saving {
 
     /// Whether this is the value that was begun. Its digest is computed only where the size is right.
     pub(crate) fn is_of<K: DigestKind>(&self, value: &[u8]) -> bool
-        ensures { result ≡ is_begun_value (digesting digested) value.now (saving_value self.now) }
+        ensures { result ≡ is_begun_value (digesting K.digested) value.now (saving_value self.now) }
     {
         value.len() == self.size as usize && self.digest.matches::<K>(value)
     }

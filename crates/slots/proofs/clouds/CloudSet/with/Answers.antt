@@ -6,8 +6,8 @@ use Rattle.slots.proofs.clouds.CloudSet.with.Goals as goal
 
 pub invariant_of-result : goal.invariant_of-result
 invariant_of-result c = record {
-      few = with_few c.args.self.now.bits c.args.cloud c.args.self.now.few (omega arith);
-    }
+  few = with_few c.args.self.now.bits c.args.cloud c.args.self.now.few (omega arith);
+}
 
 pub returns : goal.returns
 returns c =

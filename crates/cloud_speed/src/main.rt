@@ -1,6 +1,7 @@
 //! How fast the clouds are at values of 1,024 bytes: puts and gets a second, and as a share of plain copies of the
 //! same bytes in the same run. It measures when it is given the word `measure`.
 #![tactic(auto)]
+
 use anyhow::anyhow;
 use cloud::interface::Cloud;
 use cloud_fixed::fixed::FixedCloud;

@@ -1,6 +1,7 @@
 //! How fast the directories are at 64 keys: nanoseconds for a look, a commit, and the opening of a full journal beside
 //! one pass over its bytes. It measures when it is given the word `measure`.
 #![tactic(auto)]
+
 use anyhow::anyhow;
 use directory::interface::Directory;
 use directory_journal::journal::Journal;

@@ -1,6 +1,8 @@
 //! What holds of every sound and empty cloud, whatever its kind.
 use crate::steps::{Step, next, run};
 use cloud::interface::Cloud;
+use std::alloc::AllocGlobal;
+use std::process::Abort;
 use std::test::*;
 
 const NAME_39: &[u8; 39] = b"nnnnnnnnnnnnnnnnnnnnnnnnnnnnnnnnnnnnnnn";
@@ -8,7 +10,11 @@ const NAME_39: &[u8; 39] = b"nnnnnnnnnnnnnnnnnnnnnnnnnnnnnnnnnnnnnnn";
 const NAME_40: &[u8; 40] = b"nnnnnnnnnnnnnnnnnnnnnnnnnnnnnnnnnnnnnnnn";
 
 /// All the cases, at a cloud of so many places.
-pub(crate) fn all_cases<C: Cloud>(rt: &HostRuntime, cloud: &mut C, places: u8) -> Result<(), Fail> {
+pub(crate) fn all_cases<C: Cloud>(
+    rt: &(impl Abort + AllocGlobal),
+    cloud: &mut C,
+    places: u8,
+) -> Result<(), Fail> {
     fill(rt, cloud, places)?;
     fill(rt, cloud, places)?;
     if places >= 2 {
@@ -20,7 +26,7 @@ pub(crate) fn all_cases<C: Cloud>(rt: &HostRuntime, cloud: &mut C, places: u8) -
 
 // The longest name and value, and one byte more; parts one byte short, that just fit, and longer.
 fn limits<'a, C: Cloud>(
-    rt: &HostRuntime,
+    rt: &(impl Abort + AllocGlobal),
     cloud: &mut C,
     longest: &'a [u8],
     too_long: &'a [u8],
@@ -51,7 +57,7 @@ fn limits<'a, C: Cloud>(
 }
 
 // The shortest name and value. The empty name is above nothing, so next does not give it.
-fn empty_name<C: Cloud>(rt: &HostRuntime, cloud: &mut C) -> Result<(), Fail> {
+fn empty_name<C: Cloud>(rt: &(impl Abort + AllocGlobal), cloud: &mut C) -> Result<(), Fail> {
     run(
         rt,
         cloud,
@@ -67,7 +73,7 @@ fn empty_name<C: Cloud>(rt: &HostRuntime, cloud: &mut C) -> Result<(), Fail> {
 }
 
 // Fills the cloud to its last place and tries one past it, replaces each value, walks the names, and empties it.
-fn fill<C: Cloud>(rt: &HostRuntime, cloud: &mut C, places: u8) -> Result<(), Fail> {
+fn fill<C: Cloud>(rt: &(impl Abort + AllocGlobal), cloud: &mut C, places: u8) -> Result<(), Fail> {
     for i in 0..places {
         run(rt, cloud, &[Step::Put(&[7, i], 1024, i, 0)])?;
     }
@@ -75,18 +81,22 @@ fn fill<C: Cloud>(rt: &HostRuntime, cloud: &mut C, places: u8) -> Result<(), Fai
     for i in 0..places {
         replace(rt, cloud, i)?;
     }
-    next(cloud, b"", Some(2), &[7, 0])?;
+    next(rt, cloud, b"", Some(2), &[7, 0])?;
     for i in 1..places {
-        next(cloud, &[7, i - 1], Some(2), &[7, i])?;
+        next(rt, cloud, &[7, i - 1], Some(2), &[7, i])?;
     }
     for i in 0..places {
         drop_twice(rt, cloud, &[7, i])?;
     }
-    next(cloud, b"", None, b"")
+    next(rt, cloud, b"", None, b"")
 }
 
 // A new name at a full cloud.
-fn one_past<C: Cloud>(rt: &HostRuntime, cloud: &mut C, name: &[u8]) -> Result<(), Fail> {
+fn one_past<C: Cloud>(
+    rt: &(impl Abort + AllocGlobal),
+    cloud: &mut C,
+    name: &[u8],
+) -> Result<(), Fail> {
     run(
         rt,
         cloud,
@@ -99,11 +109,15 @@ fn one_past<C: Cloud>(rt: &HostRuntime, cloud: &mut C, name: &[u8]) -> Result<()
     )
 }
 
-fn drop_twice<C: Cloud>(rt: &HostRuntime, cloud: &mut C, name: &[u8]) -> Result<(), Fail> {
+fn drop_twice<C: Cloud>(
+    rt: &(impl Abort + AllocGlobal),
+    cloud: &mut C,
+    name: &[u8],
+) -> Result<(), Fail> {
     run(rt, cloud, &[Step::Drop(name, 0), Step::Drop(name, 3)])
 }
 
-fn replace<C: Cloud>(rt: &HostRuntime, cloud: &mut C, i: u8) -> Result<(), Fail> {
+fn replace<C: Cloud>(rt: &(impl Abort + AllocGlobal), cloud: &mut C, i: u8) -> Result<(), Fail> {
     let name = [7, i];
     let byte = i ^ 0x55;
     run(
@@ -118,7 +132,10 @@ fn replace<C: Cloud>(rt: &HostRuntime, cloud: &mut C, i: u8) -> Result<(), Fail>
 }
 
 // Puts over and over, so that a log closes up many times.
-fn put_again_and_again<C: Cloud>(rt: &HostRuntime, cloud: &mut C) -> Result<(), Fail> {
+fn put_again_and_again<C: Cloud>(
+    rt: &(impl Abort + AllocGlobal),
+    cloud: &mut C,
+) -> Result<(), Fail> {
     run(rt, cloud, &[Step::Put(b"stays", 700, 9, 0)])?;
     for byte in 0..200u8 {
         run(

@@ -3,10 +3,12 @@ use crate::steps::{Step, run};
 use cloud::interface::Cloud;
 use cloud_faulty::faulty::FaultyCloud;
 use cloud_fixed::fixed::FixedCloud;
+use std::alloc::AllocGlobal;
+use std::process::Abort;
 use std::test::*;
 
 // A cloud that holds the name `a` with the bytes 8 8.
-fn below(rt: &HostRuntime) -> Result<FixedCloud, Fail> {
+fn below(rt: &(impl Abort + AllocGlobal)) -> Result<FixedCloud, Fail> {
     let memory = Vec::with_capacity(rt.alloc(), 3)?;
     let Ok(mut cloud) = FixedCloud::new(memory, 3) else {
         return Err(Fail::new("refused"));
@@ -16,7 +18,10 @@ fn below(rt: &HostRuntime) -> Result<FixedCloud, Fail> {
 }
 
 // The same under a script.
-fn scripted(rt: &HostRuntime, codes: &[u8]) -> Result<FaultyCloud<FixedCloud>, Fail> {
+fn scripted(
+    rt: &(impl Abort + AllocGlobal),
+    codes: &[u8],
+) -> Result<FaultyCloud<FixedCloud>, Fail> {
     match FaultyCloud::new(below(rt)?, codes) {
         Ok(cloud) => Ok(cloud),
         Err(_) => Err(Fail::new("refused")),
@@ -25,24 +30,24 @@ fn scripted(rt: &HostRuntime, codes: &[u8]) -> Result<FaultyCloud<FixedCloud>, F
 
 // Under the script the steps go as they should, all codes are used up, and below is then what the last steps say.
 fn check_script(
-    rt: &HostRuntime,
+    rt: &(impl Abort + AllocGlobal),
     codes: &[u8],
     steps: &[Step],
     after: &[Step],
 ) -> Result<(), Fail> {
     let mut cloud = scripted(rt, codes)?;
-    assert_eq!(cloud.left(), codes.len());
+    assert_eq!(rt; cloud.left(), codes.len());
     run(rt, &mut cloud, steps)?;
-    assert_eq!(cloud.left(), 0);
+    assert_eq!(rt; cloud.left(), 0);
     run(rt, &mut cloud, after)
 }
 
 // A refusal hands the cloud back as it was.
-fn check_refused(rt: &HostRuntime, codes: &[u8]) -> Result<(), Fail> {
+fn check_refused(rt: &(impl Abort + AllocGlobal), codes: &[u8]) -> Result<(), Fail> {
     let Err(mut rejected) = FaultyCloud::new(below(rt)?, codes) else {
         return Err(Fail::new("not refused"));
     };
-    assert_eq!(rejected.refusal.number(), 2);
+    assert_eq!(rt; rejected.refusal.number(), 2);
     run(rt, &mut rejected.given, &[Step::Get(b"a", 4, 2, 8)])
 }
 

@@ -6,6 +6,7 @@ use cloud_fixed::fixed::FixedCloud;
 use cloud_fixed::place::Place;
 use cloud_log::log_cloud::LogCloud;
 use cloud_log::memory::LogMemory;
+use std::alloc::AllocGlobal;
 use std::mem::size_of;
 use std::test::*;
 
@@ -17,7 +18,7 @@ fn a_place_is_1066_bytes(rt: HostRuntime) -> Result<(), Fail> {
     Ok(())
 }
 
-fn fixed(rt: &HostRuntime, room: usize, places: usize) -> Result<Option<FixedCloud>, Fail> {
+fn fixed(rt: &impl AllocGlobal, room: usize, places: usize) -> Result<Option<FixedCloud>, Fail> {
     let memory = Vec::with_capacity(rt.alloc(), room)?;
     Ok(FixedCloud::new(memory, places).ok())
 }
@@ -46,14 +47,14 @@ fn fixed_clouds_refused(rt: HostRuntime) -> Result<(), Fail> {
     Ok(())
 }
 
-fn memory(rt: &HostRuntime, size: usize, entries: usize) -> Result<LogMemory, Fail> {
+fn memory(rt: &impl AllocGlobal, size: usize, entries: usize) -> Result<LogMemory, Fail> {
     Ok(LogMemory {
         bytes: vec![in rt.alloc(); 0xEE; size]?,
         index: Vec::with_capacity(rt.alloc(), entries)?,
     })
 }
 
-fn log(rt: &HostRuntime, places: u8) -> Result<LogCloud, Fail> {
+fn log(rt: &impl AllocGlobal, places: u8) -> Result<LogCloud, Fail> {
     let places = places as usize;
     let memory = memory(rt, (places + 1) * RECORD, places)?;
     match LogCloud::new(memory, places) {
@@ -98,7 +99,7 @@ fn log_bytes(rt: HostRuntime) -> Result<(), Fail> {
         &mut cloud,
         &[Step::Put(b"a", 2, 8, 0), Step::Drop(b"a", 0)],
     )?;
-    assert!(rt; cloud.bytes() == &[1, b'a', 0, 2, 8, 8, 1, b'a', 255, 255]);
+    assert!(rt; cloud.bytes() == [1, b'a', 0, 2, 8, 8, 1, b'a', 255, 255].as_slice());
     let values = [
         Step::Put(b"b", 1024, 1, 0),
         Step::Put(b"b", 1024, 2, 0),

@@ -5,6 +5,7 @@ use cloud_fixed::fixed::FixedCloud;
 use row::interface::Row;
 use row::pair::Pair;
 use row::single::Single;
+use std::alloc::AllocGlobal;
 use std::process::Abort;
 use std::test::*;
 
@@ -14,7 +15,7 @@ type Two = Pair<One, One>;
 
 type Three = Pair<One, Two>;
 
-fn one(rt: &HostRuntime) -> Result<One, Fail> {
+fn one(rt: &impl AllocGlobal) -> Result<One, Fail> {
     let memory = Vec::with_capacity(rt.alloc(), 2)?;
     match FixedCloud::new(memory, 2) {
         Ok(cloud) => Ok(Single { cloud }),
@@ -22,7 +23,7 @@ fn one(rt: &HostRuntime) -> Result<One, Fail> {
     }
 }
 
-fn three(rt: &HostRuntime) -> Result<Three, Fail> {
+fn three(rt: &impl AllocGlobal) -> Result<Three, Fail> {
     let left = one(rt)?;
     let middle = one(rt)?;
     let right = one(rt)?;
@@ -35,7 +36,7 @@ fn three(rt: &HostRuntime) -> Result<Three, Fail> {
     })
 }
 
-fn seven(rt: &HostRuntime) -> Result<Pair<Pair<Three, Three>, One>, Fail> {
+fn seven(rt: &impl AllocGlobal) -> Result<Pair<Pair<Three, Three>, One>, Fail> {
     let left = three(rt)?;
     let middle = three(rt)?;
     let right = one(rt)?;

@@ -24,7 +24,7 @@ fn commit_longest(
     i: u8,
     sequence: u32,
 ) -> Result<(), Fail> {
-    let entry = saved(sequence, 16, 127, 1024, 32)?;
+    let entry = saved(rt, sequence, 16, 127, 1024, 32)?;
     assert!(rt; is_committed(journal.commit(255, &long_key(i)?, &entry)));
     Ok(())
 }

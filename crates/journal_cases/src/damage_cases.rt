@@ -2,41 +2,43 @@
 use crate::made::{append_deleted, bad_at, deleted, filled, key, read_length, saved, written};
 use entry::entry::Entry;
 use journal_record::record::Record;
+use std::alloc::AllocGlobal;
+use std::process::Abort;
 use std::test::*;
 
 // Damaged bytes are no record, or are just those of another one.
-fn check_other(rt: &HostRuntime, bytes: &[u8]) -> Result<(), Fail> {
+fn check_other(rt: &(impl Abort + AllocGlobal), bytes: &[u8]) -> Result<(), Fail> {
     let Some(found) = Record::read(bytes) else {
         return Ok(());
     };
     let (other, len) = found;
-    assert!(len <= bytes.len());
-    assert!(written(rt, &other)?.as_slice() == &bytes[0..len]);
+    assert!(rt; len <= bytes.len());
+    assert!(rt; written(rt, &other)?.as_slice() == &bytes[0..len]);
     Ok(())
 }
 
-fn check_bits(rt: &HostRuntime, bytes: &[u8], at: usize) -> Result<(), Fail> {
+fn check_bits(rt: &(impl Abort + AllocGlobal), bytes: &[u8], at: usize) -> Result<(), Fail> {
     for bit in [1u8, 2, 4, 8, 16, 32, 64, 128] {
         let mut damaged = Vec::from_slice(rt.alloc(), bytes)?;
         if let Some(byte) = damaged.get_mut(at) {
             *byte = *byte ^ bit;
         }
-        assert!(damaged.as_slice() != bytes);
+        assert!(rt; damaged.as_slice() != bytes);
         check_other(rt, damaged.as_slice())?;
         if at == 0 && bit >= 32 {
-            assert_eq!(read_length(damaged.as_slice()), None);
+            assert_eq!(rt; read_length(damaged.as_slice()), None);
         }
     }
     Ok(())
 }
 
-fn check_damage(rt: &HostRuntime, container: u8, entry: Entry) -> Result<(), Fail> {
+fn check_damage(rt: &(impl Abort + AllocGlobal), container: u8, entry: Entry) -> Result<(), Fail> {
     let bytes = written(rt, &Record::new(container, key(b"k1")?, entry))?;
     for at in 0..bytes.len() {
         check_bits(rt, bytes.as_slice(), at)?;
-        assert_eq!(read_length(&bytes.as_slice()[0..at]), None);
+        assert_eq!(rt; read_length(&bytes.as_slice()[0..at]), None);
     }
-    assert_eq!(read_length(bytes.as_slice()), Some(bytes.len()));
+    assert_eq!(rt; read_length(bytes.as_slice()), Some(bytes.len()));
     Ok(())
 }
 
@@ -45,14 +47,14 @@ fn every_bit_of_each_shape(rt: HostRuntime) -> Result<(), Fail> {
     for container in [0u8, 9] {
         check_damage(&rt, container, deleted(1, 1)?)?;
         for (size, width) in [(0usize, 20usize), (0, 32), (700, 20), (700, 32)] {
-            check_damage(&rt, container, saved(1, 1, 3, size, width)?)?;
+            check_damage(&rt, container, saved(&rt, 1, 1, 3, size, width)?)?;
         }
     }
     Ok(())
 }
 
 // Records of 8 bytes each, of one key.
-fn records(rt: &HostRuntime, count: u32) -> Result<Vec<u8>, Fail> {
+fn records(rt: &(impl Abort + AllocGlobal), count: u32) -> Result<Vec<u8>, Fail> {
     let mut bytes = vec![in rt.alloc()]?;
     for i in 0..count {
         append_deleted(rt, &mut bytes, b'k', i / 16 + 1, (i % 16) as u8 + 1)?;

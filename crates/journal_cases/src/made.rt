@@ -8,6 +8,8 @@ use journal_record::record::Record;
 use naming::key::Key;
 use naming::stamp::Stamp;
 use refusal::Refusal;
+use std::alloc::AllocGlobal;
+use std::process::Abort;
 use std::test::*;
 
 const DIGEST: [u8; 32] = [0xA5; 32];
@@ -35,13 +37,14 @@ pub(crate) fn deleted(sequence: u32, writer: u8) -> Result<Entry, Fail> {
 
 /// The entry of a value with a digest of this width.
 pub(crate) fn saved(
+    rt: &impl Abort,
     sequence: u32,
     writer: u8,
     clouds: u8,
     size: usize,
     width: usize,
 ) -> Result<Entry, Fail> {
-    assert!(width <= 32);
+    assert!(rt; width <= 32);
     let Some(live) = Live::new(clouds, size, &DIGEST[0..width]) else {
         return Err(Fail::new("no such value"));
     };
@@ -52,7 +55,7 @@ pub(crate) fn saved(
 }
 
 /// The bytes of a record.
-pub(crate) fn written(rt: &HostRuntime, record: &Record) -> Result<Vec<u8>, Fail> {
+pub(crate) fn written(rt: &impl AllocGlobal, record: &Record) -> Result<Vec<u8>, Fail> {
     let mut out = vec![in rt.alloc(); 0u8; 75]?;
     let Some(len) = record.write(out.as_mut_slice()) else {
         return Err(Fail::new("longer than any record"));
@@ -69,7 +72,7 @@ pub(crate) fn read_length(bytes: &[u8]) -> Option<usize> {
 
 /// The key of one byte, deleted with this stamp: 8 bytes.
 pub(crate) fn append_deleted(
-    rt: &HostRuntime,
+    rt: &(impl Abort + AllocGlobal),
     bytes: &mut Vec<u8>,
     name: u8,
     sequence: u32,
@@ -77,14 +80,14 @@ pub(crate) fn append_deleted(
 ) -> Result<(), Fail> {
     let record = Record::new(0, key(&[name])?, deleted(sequence, writer)?);
     let more = written(rt, &record)?;
-    assert_eq!(more.len(), 8);
+    assert_eq!(rt; more.len(), 8);
     bytes.extend_from_slice(more.as_slice())?;
     Ok(())
 }
 
 /// These bytes and then others of one kind, as many as are wanted in all.
 pub(crate) fn filled(
-    rt: &HostRuntime,
+    rt: &impl AllocGlobal,
     bytes: &[u8],
     fill: u8,
     len: usize,
@@ -94,7 +97,11 @@ pub(crate) fn filled(
     Ok(memory)
 }
 
-pub(crate) fn opened(rt: &HostRuntime, bytes: Vec<u8>, places: usize) -> Result<Journal, Fail> {
+pub(crate) fn opened(
+    rt: &impl AllocGlobal,
+    bytes: Vec<u8>,
+    places: usize,
+) -> Result<Journal, Fail> {
     let index = Vec::with_capacity(rt.alloc(), places)?;
     match Journal::open(JournalMemory { bytes, index }, places) {
         Ok(journal) => Ok(journal),
@@ -104,7 +111,7 @@ pub(crate) fn opened(rt: &HostRuntime, bytes: Vec<u8>, places: usize) -> Result<
 
 /// Why the bytes are refused, if they are.
 pub(crate) fn refused(
-    rt: &HostRuntime,
+    rt: &(impl Abort + AllocGlobal),
     bytes: &[u8],
     places: usize,
     room: usize,
@@ -116,18 +123,22 @@ pub(crate) fn refused(
     match Journal::open(memory, places) {
         Ok(_) => Ok(None),
         Err(rejected) => {
-            assert!(rejected.given.bytes.as_slice() == bytes);
+            assert!(rt; rejected.given.bytes.as_slice() == bytes);
             Ok(Some(rejected.refusal))
         }
     }
 }
 
 /// Where the first bad record begins, or none where the bytes are a journal.
-pub(crate) fn bad_at(rt: &HostRuntime, bytes: &[u8], places: usize) -> Result<Option<usize>, Fail> {
+pub(crate) fn bad_at(
+    rt: &(impl Abort + AllocGlobal),
+    bytes: &[u8],
+    places: usize,
+) -> Result<Option<usize>, Fail> {
     match refused(rt, bytes, places, places)? {
         None => Ok(None),
         Some(refusal) => {
-            assert_eq!(refusal.number(), 3);
+            assert_eq!(rt; refusal.number(), 3);
             Ok(refusal.offset())
         }
     }

@@ -4,6 +4,8 @@ use crate::made::{
     sequence_of,
 };
 use directory::interface::Directory;
+use std::alloc::AllocGlobal;
+use std::process::Abort;
 use std::test::*;
 
 #[test]
@@ -42,7 +44,7 @@ fn storage_is_checked_before_the_bytes(rt: HostRuntime) -> Result<(), Fail> {
 
 // Two records, and where the second is refused.
 fn second(
-    rt: &HostRuntime,
+    rt: &(impl Abort + AllocGlobal),
     name: u8,
     sequence: u32,
     writer: u8,

@@ -4,6 +4,7 @@ use entry::entry::Entry;
 use entry::live::Live;
 use journal_record::record::Record;
 use naming::key::Key;
+use std::alloc::AllocGlobal;
 use std::process::Abort;
 use std::test::*;
 
@@ -11,45 +12,49 @@ const LOW: [u8; 1] = [0x21];
 
 const HIGH: [u8; 32] = [0x7E; 32];
 
-fn check_same_value(left: Live, right: Live) -> Result<(), Fail> {
-    assert_eq!(left.clouds(), right.clouds());
-    assert_eq!(left.size(), right.size());
-    assert!(left.digest().as_bytes() == right.digest().as_bytes());
+fn check_same_value(rt: &impl Abort, left: Live, right: Live) -> Result<(), Fail> {
+    assert_eq!(rt; left.clouds(), right.clouds());
+    assert_eq!(rt; left.size(), right.size());
+    assert!(rt; left.digest().as_bytes() == right.digest().as_bytes());
     Ok(())
 }
 
-fn check_same_entry(left: Entry, right: Entry) -> Result<(), Fail> {
-    assert_eq!(left.stamp().sequence(), right.stamp().sequence());
-    assert_eq!(left.stamp().writer(), right.stamp().writer());
-    assert_eq!(left.live().is_some(), right.live().is_some());
+fn check_same_entry(rt: &impl Abort, left: Entry, right: Entry) -> Result<(), Fail> {
+    assert_eq!(rt; left.stamp().sequence(), right.stamp().sequence());
+    assert_eq!(rt; left.stamp().writer(), right.stamp().writer());
+    assert_eq!(rt; left.live().is_some(), right.live().is_some());
     let Some(value) = left.live() else {
         return Ok(());
     };
     let Some(other) = right.live() else {
         return Err(Fail::new("not live"));
     };
-    check_same_value(value, other)
+    check_same_value(rt, value, other)
 }
 
 // What is written reads back as itself, whatever follows.
-fn check_reads_back(rt: &HostRuntime, record: &Record, expected: usize) -> Result<(), Fail> {
+fn check_reads_back(
+    rt: &(impl Abort + AllocGlobal),
+    record: &Record,
+    expected: usize,
+) -> Result<(), Fail> {
     let mut bytes = written(rt, record)?;
-    assert_eq!(bytes.len(), expected);
-    assert_eq!(record.len(), expected);
+    assert_eq!(rt; bytes.len(), expected);
+    assert_eq!(rt; record.len(), expected);
     bytes.extend_from_slice(&HIGH)?;
     let Some(found) = Record::read(bytes.as_slice()) else {
         return Err(Fail::new("not read"));
     };
     let (again, len) = found;
-    assert_eq!(len, expected);
-    assert_eq!(again.container(), record.container());
-    assert!(again.key().is_same(&record.key()));
-    check_same_entry(again.entry(), record.entry())
+    assert_eq!(rt; len, expected);
+    assert_eq!(rt; again.container(), record.container());
+    assert!(rt; again.key().is_same(&record.key()));
+    check_same_entry(rt, again.entry(), record.entry())
 }
 
 // A container of 0 and a size of 0 are left out.
 fn check_values(
-    rt: &HostRuntime,
+    rt: &(impl Abort + AllocGlobal),
     container: u8,
     key: Key,
     sequence: u32,
@@ -70,7 +75,7 @@ fn check_values(
             (255, 32, 35),
             (256, 32, 35),
         ] {
-            let entry = saved(sequence, writer, clouds, size, width)?;
+            let entry = saved(rt, sequence, writer, clouds, size, width)?;
             check_reads_back(rt, &Record::new(container, key, entry), front + more)?;
         }
     }
@@ -96,10 +101,10 @@ const LIVE: [u8; 33] = [
 
 #[test]
 fn the_layout_of_a_record(rt: HostRuntime) -> Result<(), Fail> {
-    let record = Record::new(3, key(b"AB")?, saved(2, 5, 7, 1024, 20)?);
-    assert!(rt; written(&rt, &record)?.as_slice() == &LIVE);
+    let record = Record::new(3, key(b"AB")?, saved(&rt, 2, 5, 7, 1024, 20)?);
+    assert!(rt; written(&rt, &record)?.as_slice() == LIVE.as_slice());
     let gone = Record::new(0, key(b"AB")?, deleted(0x0102_0304, 5)?);
-    assert!(rt; written(&rt, &gone)?.as_slice() == &[0x80, 2, 0x41, 0x42, 1, 2, 3, 4, 5]);
+    assert!(rt; written(&rt, &gone)?.as_slice() == [0x80, 2, 0x41, 0x42, 1, 2, 3, 4, 5].as_slice());
     Ok(())
 }
 

@@ -28,8 +28,8 @@ pub(crate) fn next_stamp<D: Directory>(
     key: &Key,
     party: Party,
 ) -> Result<Stamp, Refusal>
-    ensures value { answered stamp_value result ≡ or_refused (when (nat_le greatest_sequence (stamp_of (entry_of (meaning directory.old) container (key_bytes key.now))).sequence) SequenceExhausted) (next_stamp (stamp_of (entry_of (meaning directory.old) container (key_bytes key.now))) (party_number party)) }
-    ensures same { meaning directory.new ≡ meaning directory.old }
+    ensures value { answered stamp_value result ≡ or_refused (when (nat_le greatest_sequence (stamp_of (entry_of (D.meaning directory.old) container (key_bytes key.now))).sequence) SequenceExhausted) (next_stamp (stamp_of (entry_of (D.meaning directory.old) container (key_bytes key.now))) (party_number party)) }
+    ensures same { D.meaning directory.new ≡ D.meaning directory.old }
 {
     let last = match directory.look(container, key) {
         Some(entry) => entry.stamp(),
@@ -40,8 +40,8 @@ pub(crate) fn next_stamp<D: Directory>(
 
 /// A fetch of the key as it stands in the directory, if it has a value.
 pub(crate) fn fetch_of<D: Directory>(directory: &mut D, container: u8, key: Key) -> Option<Fetching>
-    ensures value { fetch_slot result ≡ fetch_of container (key_bytes key) (stamp_of (entry_of (meaning directory.old) container (key_bytes key))) (live_of (entry_of (meaning directory.old) container (key_bytes key))) }
-    ensures same { meaning directory.new ≡ meaning directory.old }
+    ensures value { fetch_slot result ≡ fetch_of container (key_bytes key) (stamp_of (entry_of (D.meaning directory.old) container (key_bytes key))) (live_of (entry_of (D.meaning directory.old) container (key_bytes key))) }
+    ensures same { D.meaning directory.new ≡ D.meaning directory.old }
 {
     let entry = directory.look(container, &key)?;
     let live = entry.live()?;
@@ -59,8 +59,8 @@ pub(crate) fn live_entry<D: Directory>(
     container: u8,
     key: &Key,
 ) -> Result<Entry, Refusal>
-    ensures value { answered entry_value result ≡ or_refused (when (not (is_there (live_of (entry_of (meaning directory.old) container (key_bytes key.now))))) NoEntry) (entry_or_none (entry_of (meaning directory.old) container (key_bytes key.now))) }
-    ensures same { meaning directory.new ≡ meaning directory.old }
+    ensures value { answered entry_value result ≡ or_refused (when (not (is_there (live_of (entry_of (D.meaning directory.old) container (key_bytes key.now))))) NoEntry) (entry_or_none (entry_of (D.meaning directory.old) container (key_bytes key.now))) }
+    ensures same { D.meaning directory.new ≡ D.meaning directory.old }
 {
     let Some(entry) = directory.look(container, key) else {
         return Err(Refusal::NoEntry);
@@ -88,8 +88,8 @@ pub(crate) fn commit_entry<D: Directory>(
     key: &Key,
     entry: &Entry,
 ) -> Result<CommitOutcome, Refusal>
-    ensures value { result ≡ or_refused (when (is_full (commit_answer (meaning directory.old) container (key_bytes key.now) (entry_value entry.now))) DirectoryFull) (commit_outcome (commit_answer (meaning directory.old) container (key_bytes key.now) (entry_value entry.now))) }
-    ensures after { meaning directory.new ≡ or_kept (when (is_full (commit_answer (meaning directory.old) container (key_bytes key.now) (entry_value entry.now))) DirectoryFull) (meaning directory.old) (commit_after (meaning directory.old) container (key_bytes key.now) (entry_value entry.now)) }
+    ensures value { result ≡ or_refused (when (is_full (commit_answer (D.meaning directory.old) container (key_bytes key.now) (entry_value entry.now))) DirectoryFull) (commit_outcome (commit_answer (D.meaning directory.old) container (key_bytes key.now) (entry_value entry.now))) }
+    ensures after { D.meaning directory.new ≡ or_kept (when (is_full (commit_answer (D.meaning directory.old) container (key_bytes key.now) (entry_value entry.now))) DirectoryFull) (D.meaning directory.old) (commit_after (D.meaning directory.old) container (key_bytes key.now) (entry_value entry.now)) }
 {
     match directory.commit(container, key, entry) {
         CommitAnswer::Committed => Ok(CommitOutcome::Committed),

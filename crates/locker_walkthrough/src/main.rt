@@ -1,6 +1,7 @@
 //! One task from beginning to end: a tractor's offset is saved on two of three clouds, one of them falls silent, and a
 //! second tractor fetches the offset; and what becomes of a cloud that gives out an earlier copy.
 #![tactic(auto)]
+
 use anyhow::anyhow;
 use directory::interface::Directory;
 use directory_journal::journal::Journal;

@@ -1,12 +1,12 @@
 -- What a map finds after a change, and that what it finds makes the map.
-use Rattle.std.proofs.Common.{◌≡◌, ℕ, ◌+◌, ◌<◌, Bool, true, false, cond, not, ◌⊎◌, List, [], ◌∷◌, ◌++◌, length, get_or, Some, None, Decides, Option, sym, refl, ap, ◌∙◌, subst, inl, inr, ⊎_elim, arith}
+use Rattle.std.proofs.Common.{◌≡◌, ℕ, Bool, true, false, cond, ◌⊎◌, List, [], ◌∷◌, Some, None, Option, sym, refl, ap, ◌∙◌, subst, inl, inr, ⊎_elim, arith}
 use Rattle.std.specs.Str.{bytes_eq}
 use Rattle.std.proofs.lemmas.Slice.Eq.{bytes_eq-Decides}
 use Rattle.std.proofs.lemmas.Bool.{cases_Bool, both_ways}
 use Rattle.std.proofs.lemmas.Bool.Decides.{nat_tests}
-use Rattle.byte_strings.specs.Order.{below, at_most}
+use Rattle.byte_strings.specs.Order.{below}
 use Rattle.byte_strings.proofs.Order.{below_irreflexive, below_transitive, below_trichotomy}
-use Rattle.bytemap.specs.Map.{Map, find, insert, remove, next_key, AllAbove, Ascending, gathered, Distinct}
+use Rattle.bytemap.specs.Map.{Map, find, insert, remove, AllAbove, Ascending, gathered}
 
 -- ---- tests
 

@@ -1,13 +1,13 @@
 -- The smallest key above a byte string: what it is of the keys that are found, and how a search through pairs in any order finds it.
-use Rattle.std.proofs.Common.{◌≡◌, ℕ, zero, suc, ◌<◌, Bool, true, false, cond, not, ◌⊎◌, List, [], ◌∷◌, map, length, get_or, Some, None, Option, sym, refl, ap, ◌∙◌, subst, inl, inr, ⊎_elim, arith}
+use Rattle.std.proofs.Common.{◌≡◌, ℕ, zero, suc, ◌<◌, true, false, cond, List, [], ◌∷◌, map, length, get_or, Some, None, Option, sym, refl, ap, ◌∙◌, subst, ⊎_elim, arith}
 use Rattle.std.specs.Str.{bytes_eq}
 use Rattle.std.specs.Option.{option_map}
 use Rattle.std.proofs.lemmas.Bool.{cases_Bool, both_ways}
 use Rattle.byte_strings.specs.Order.{below, at_most}
-use Rattle.byte_strings.specs.Least.{Least, LeastAt, NonePasses}
-use Rattle.byte_strings.proofs.Order.{below_irreflexive, below_transitive, below_trichotomy, below_at_most, below_or_at_most, at_most_antisymmetric, at_most_reflexive, at_most_then_below, below_then_at_most}
+use Rattle.byte_strings.specs.Least.{Least}
+use Rattle.byte_strings.proofs.Order.{below_or_at_most, at_most_antisymmetric}
 use Rattle.bytemap.specs.Map.{Map, find, next_key, AllAbove, Ascending, gathered}
-use Rattle.bytemap.proofs.Find.{before_first, find_empty, none_or_some, same_self, same_is, apart, find_cons, find_gathered, not_above, below_asymmetric, ascending_gathered}
+use Rattle.bytemap.proofs.Find.{before_first, find_empty, none_or_some, same_self, same_is, apart, find_cons, find_gathered, ascending_gathered}
 
 module _ {V : Type 0} where
   -- no key above

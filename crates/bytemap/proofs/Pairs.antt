@@ -1,11 +1,11 @@
 -- Pairs in any order, none with the key of another: what they find, and the map that they make, after a change.
-use Rattle.std.proofs.Common.{◌≡◌, ℕ, zero, suc, ◌+◌, ◌<◌, Bool, true, false, cond, not, ◌⊎◌, List, [], ◌∷◌, ◌++◌, length, get_or, take, drop, set, is_some, Some, None, Option, sym, refl, ap, ◌∙◌, subst, inl, inr, ⊎_elim, arith}
+use Rattle.std.proofs.Common.{◌≡◌, ℕ, zero, suc, ◌+◌, ◌<◌, true, false, cond, not, List, [], ◌∷◌, ◌++◌, length, get_or, take, drop, set, is_some, Some, None, Option, sym, refl, ap, ◌∙◌, subst, ⊎_elim, arith}
 use Rattle.std.specs.Str.{bytes_eq}
-use Rattle.std.proofs.lemmas.Bool.{cases_Bool, both_ways, and_parts, and_from}
+use Rattle.std.proofs.lemmas.Bool.{cases_Bool, and_parts, and_from}
 use Rattle.std.proofs.lemmas.Bool.Decides.{nat_tests}
 use Rattle.byte_strings.specs.Order.{below}
 use Rattle.bytemap.specs.Map.{Map, find, insert, remove, Ascending, gathered, Distinct, all_different}
-use Rattle.bytemap.proofs.Find.{same_self, same_is, apart, same_sym, same_at, same_through, find_empty, find_cons, before_first, find_insert, find_remove, find_gathered, ascending_insert, ascending_remove, ascending_gathered, same_map}
+use Rattle.bytemap.proofs.Find.{same_self, same_is, same_sym, same_through, find_empty, find_cons, before_first, find_insert, find_remove, find_gathered, ascending_insert, ascending_remove, ascending_gathered, same_map}
 
 module _ {V : Type 0} where
   -- a key that is found beside an absent one is another

@@ -1,15 +1,12 @@
 -- Laws of sound clouds.
-use Rattle.std.proofs.Common.{◌≡◌, ℕ, ◌+◌, ◌≤◌, Bool, true, false, cond, leb, ◌⊎◌, List, [], ◌∷◌, ◌++◌, map, length, take, drop, Some, None, Ok, Err, Option, Result, sym, refl, ap, ◌∙◌, subst, inl, inr, ⊎_elim, arith}
-use Rattle.std.specs.Option.{option_map}
-use Rattle.std.specs.Str.{bytes_eq}
+use Rattle.std.proofs.Common.{◌≡◌, ℕ, ◌≤◌, true, List, ◌∷◌, length, take, drop, Some, None, Ok, Err, Option, sym, refl, ap, ◌∙◌, subst, arith}
 use Rattle.std.proofs.lemmas.List.{take_at}
-use Rattle.std.proofs.lemmas.Bool.{cases_Bool, le-leb}
-use Rattle.byte_strings.specs.Order.{below}
-use Rattle.bytemap.specs.Map.{Map, find, insert, remove, next_key, beyond, keys, AllAbove, Ascending}
-use Rattle.bytemap.proofs.Find.{apart, same_self, same_is, find_insert, find_remove, find_empty}
+use Rattle.std.proofs.lemmas.Bool.{le-leb}
+use Rattle.bytemap.specs.Map.{find, next_key, beyond, keys, Ascending}
+use Rattle.bytemap.proofs.Find.{apart, same_self, find_insert, find_remove}
 use Rattle.bytemap.proofs.Walk.{beyond_none, beyond_next}
-use Rattle.cloud.specs.Meaning.{CloudMeaning, WithinLimits}
-use Rattle.cloud.specs.Outcomes.{Done, Length, NextLength, over, put_answer, put_after, when_put, get_answer, get_part, drop_answer, drop_after, when_dropped, next_answer, next_place, place_with, PutOutcome, GetOutcome, DropOutcome, NextOutcome}
+use Rattle.cloud.specs.Meaning.{CloudMeaning}
+use Rattle.cloud.specs.Outcomes.{Done, Length, over, put_answer, put_after, when_put, get_answer, get_part, drop_answer, drop_after, when_dropped, next_answer, next_place, GetOutcome, NextOutcome}
 use Rattle.cloud.specs.Laws.{OtherCall, put, get, drop as dropped, next, OtherCalls, none, more, Walk, end, step, WhatIsPutIsGotBack, OtherNamesKeepTheirValues, NextWalksAllNames}
 
 -- ---- one call

@@ -1,9 +1,7 @@
 -- Using up a script.
-use Rattle.std.proofs.Common.{◌≡◌, ℕ, ◌+◌, ◌-◌, ◌<◌, ◌≤◌, List, [], ◌∷◌, length, get_or, take, drop, ap, ◌∙◌, arith, length-drop, length-take}
+use Rattle.std.proofs.Common.{◌≡◌, ◌+◌, ◌-◌, ◌<◌, [], ◌∷◌, length, get_or, take, drop, ap, ◌∙◌, arith, length-drop, length-take}
 use Rattle.std.proofs.lemmas.List.{drop_all, drop_more, get_or-take}
-use Rattle.cloud_faulty.specs.declared.fault.Fault.{Fault}
 use Rattle.cloud_faulty.specs.declared.fault.Fault.TheVariants.{Pass}
-use Rattle.cloud_faulty.specs.Faults.{first, rest}
 use Rattle.cloud_faulty.specs.declared.script.Script.{Script}
 use Rattle.cloud_faulty.specs.Scripts.{faults_left}
 

@@ -1,10 +1,10 @@
 -- What a call at a sound cloud answers, writes and leaves, by what the cloud finds.
-use Rattle.std.proofs.Common.{◌≡◌, ℕ, ◌+◌, ◌-◌, ◌<◌, ◌≤◌, true, false, cond, ◌&&◌, eqb, leb, ◌⊎◌, List, length, Some, None, Ok, Err, Option, sym, refl, ap, ◌∙◌, arith}
+use Rattle.std.proofs.Common.{◌≡◌, ℕ, ◌+◌, ◌-◌, ◌<◌, ◌≤◌, true, false, eqb, leb, ◌⊎◌, List, length, Some, None, Ok, Err, refl, arith}
 use Rattle.std.proofs.lemmas.Bool.Decides.{nat_tests}
 use Rattle.refusal.specs.declared.Cause.TheVariants.{Full, TooLong, NotHeld}
 use Rattle.bytemap.specs.Map.{Map, find, insert, remove, next_key}
 use Rattle.cloud.specs.Meaning.{CloudMeaning}
-use Rattle.cloud.specs.Outcomes.{over, fits, free_after, put_answer, put_after, get_answer, get_part, drop_answer, drop_after, next_answer, next_place, PutOutcome, GetOutcome, DropOutcome, NextOutcome}
+use Rattle.cloud.specs.Outcomes.{over, fits, put_answer, put_after, get_answer, get_part, drop_answer, drop_after, next_answer, next_place, PutOutcome, GetOutcome, DropOutcome, NextOutcome}
 
 abbrev Held : Type 0
 Held = Map (List ℕ)

@@ -1,17 +1,16 @@
 -- Closing up, one record at a time.
-use Rattle.std.proofs.Common.{◌≡◌, ℕ, zero, suc, ◌+◌, ◌-◌, ◌*◌, ◌<◌, ◌≤◌, Bool, true, false, ◌&&◌, leb, List, [], ◌∷◌, ◌++◌, map, length, get_or, take, drop, set, sym, refl, ap, ◌∙◌, subst, append_assoc, append-nil, arith, length-append, length-drop, length-set, length-take}
+use Rattle.std.proofs.Common.{◌≡◌, ℕ, ◌+◌, ◌-◌, ◌*◌, ◌<◌, ◌≤◌, true, leb, List, [], ◌∷◌, ◌++◌, map, length, get_or, take, drop, set, sym, refl, ap, ◌∙◌, subst, append_assoc, append-nil, arith, length-drop, length-set}
 use lib.Seq.{paste}
 use Rattle.std.specs.Str.{bytes_eq}
-use Rattle.std.specs.List.{flat_map}
-use Rattle.std.proofs.lemmas.List.{take_at, drop_at, take-take, drop-take, drop-drop, length-take-le, take_more_set, drop-set-lt, drop_more, take_all, drop_all, map_push, flat_map_more}
+use Rattle.std.proofs.lemmas.List.{take_at, drop_at, take-take, drop-take, length-take-le, take_more_set, drop-set-lt, drop_more, take_all, drop_all, map_push, flat_map_more}
 use Rattle.std.proofs.lemmas.Bool.{and_parts, leb-true}
 use Rattle.std.proofs.lemmas.Slice.Eq.{bytes_eq-Decides}
-use Rattle.log_record.specs.Records.{Record, stored, encoded, all_encoded}
+use Rattle.log_record.specs.Records.{encoded, all_encoded}
 use Rattle.log_record.specs.Replay.{stored_pair}
 use Rattle.log_record.specs.Written.{overwritten}
 use Rattle.log_record.proofs.Overwriting.{overwritten_is, take_overwritten, rest_overwritten, length_overwritten}
 use Rattle.cloud_log.specs.declared.entry.Entry.{Entry}
-use Rattle.cloud_log.specs.Index.{name_of, record_size, end_of, record_bytes, value_in, pair_in, record_in, recorded, laid}
+use Rattle.cloud_log.specs.Index.{name_of, record_size, end_of, record_bytes, pair_in, record_in, recorded, laid}
 use Rattle.cloud_log.specs.Closing.{Closed}
 use Rattle.cloud_log.specs.Standing.{name_short, moved_pair, moved_recorded, Head, head_of, laid_none, laid_lower, laid_push, laid_same_front, laid_same_rest, laid_within}
 

@@ -1,26 +1,26 @@
 -- The calls at a log cloud, by what stands in its index.
-use Rattle.std.specs.Prelude.{◌≡◌, ℕ, zero, suc, ◌+◌, ◌-◌, ◌<◌, ◌≤◌, Bool, true, false, cond, ◌||◌, ◌⊎◌, List, [], ◌∷◌, ◌++◌, map, length, is_some, IfNone, Some, None, Ok, Err, vec_items, vec_len, Option, nat_lt, slice_index_or, refl}
-use Rattle.std.proofs.Common.{sym, ap, subst, ◌∙◌, inl, inr, ⊎_elim, arith}
+use Rattle.std.specs.Prelude.{◌≡◌, ℕ, ◌+◌, ◌-◌, ◌<◌, ◌≤◌, true, false, ◌||◌, List, [], ◌++◌, map, length, is_some, IfNone, Some, None, Ok, Err, vec_items, vec_len, Option, nat_lt, slice_index_or, refl}
+use Rattle.std.proofs.Common.{sym, ap, subst, ◌∙◌, arith}
 use Rattle.std.specs.Option.{option_map}
 use Rattle.std.proofs.lemmas.List.Edits.{length-remove}
-use Rattle.std.proofs.lemmas.List.{length-map, get_or-map}
+use Rattle.std.proofs.lemmas.List.{length-map}
 use Rattle.std.proofs.lemmas.Bool.{both_ways, ltb-true, ltb-false}
 use Rattle.refusal.specs.declared.Cause.TheVariants.{Full}
 use Rattle.byte_strings.specs.Order.{at_most, below}
 use Rattle.byte_strings.specs.Least.{Least}
 use Rattle.bytemap.specs.Map.{find, insert, remove, next_key, gathered, Ascending}
-use Rattle.bytemap.proofs.Find.{ascending_gathered, find_gathered, none_or_some, find_cons, find_empty, same_is}
+use Rattle.bytemap.proofs.Find.{ascending_gathered}
 use Rattle.bytemap.proofs.Next.{next_from_least}
-use Rattle.cloud.specs.Meaning.{CloudMeaning, WithinLimits}
+use Rattle.cloud.specs.Meaning.{WithinLimits}
 use Rattle.cloud.specs.Outcomes.{PutOutcome, DropOutcome}
 use Rattle.log_record.specs.Records.{Record, encoded}
 use Rattle.log_record.specs.Replay.{replayed}
 use Rattle.cloud_log.specs.declared.entry.Entry.{Entry}
 use Rattle.cloud_log.specs.declared.log_cloud.LogCloud.{LogCloud}
-use Rattle.cloud_log.specs.Index.{name_of, names, end_of, value_in, pair_in, recorded, laid, Placed, without}
+use Rattle.cloud_log.specs.Index.{name_of, names, end_of, value_in, pair_in, Placed}
 use Rattle.cloud_log.specs.Meaning.{log_of, log_meaning, Logged, Roomy}
-use Rattle.cloud_log.specs.Standing.{name_short, laid_at}
-use Rattle.cloud_log.specs.Sound.{Sound, count, not_found, found_value, count_put, count_drop, limits}
+use Rattle.cloud_log.specs.Standing.{laid_at}
+use Rattle.cloud_log.specs.Sound.{count, not_found, found_value, count_put, count_drop, limits}
 use Rattle.cloud_log.specs.State.{sound_of, placed_within}
 use Rattle.cloud.proofs.Outcomes.{put_full, put_new, put_again, drop_done}
 

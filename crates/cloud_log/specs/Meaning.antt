@@ -1,8 +1,8 @@
 -- What a log cloud means: what its bytes read back to.
-use Rattle.std.specs.Prelude.{◌≡◌, ℕ, ◌+◌, ◌-◌, ◌*◌, ◌≤◌, true, List, [], ◌++◌, length, take, Ok, Err, vec_items, vec_len}
+use Rattle.std.specs.Prelude.{◌≡◌, ℕ, ◌+◌, ◌-◌, ◌≤◌, true, List, ◌++◌, length, take, Ok, Err, vec_items, vec_len}
 use Rattle.cloud.specs.Meaning.{CloudMeaning}
 use Rattle.cloud.specs.Outcomes.{Done}
-use Rattle.log_record.specs.Records.{Record, encoded, longest_record}
+use Rattle.log_record.specs.Records.{Record, encoded}
 use Rattle.log_record.specs.Replay.{replayed}
 use Rattle.cloud_log.specs.Index.{names}
 use Rattle.cloud_log.specs.declared.log_cloud.LogCloud.{LogCloud}

@@ -1,14 +1,14 @@
 -- Bytes and an index that belong together, and what a record more, a record less and closing up make of them.
-use Rattle.std.specs.Prelude.{◌≡◌, ℕ, zero, suc, ◌+◌, ◌-◌, ◌*◌, ◌/◌, ◌%◌, ◌<◌, ◌≤◌, Bool, true, false, cond, not, ◌&&◌, leb, List, [], ◌∷◌, ◌++◌, map, length, get_or, take, drop, is_some, Some, None, Option, nat_le, slice_index_or, refl}
-use Rattle.std.proofs.Common.{sym, ap, subst, ◌∙◌, ⊎_elim, arith, length-take, length-drop, length-append}
+use Rattle.std.specs.Prelude.{◌≡◌, ℕ, zero, suc, ◌+◌, ◌<◌, ◌≤◌, Bool, true, false, cond, leb, List, [], ◌∷◌, ◌++◌, map, length, get_or, take, drop, Some, None, Option, nat_le, slice_index_or, refl}
+use Rattle.std.proofs.Common.{sym, ap, subst, ◌∙◌, ⊎_elim, arith, length-take, length-drop}
 use Rattle.std.specs.Str.{bytes_eq}
-use Rattle.std.proofs.lemmas.List.{take_at, drop_at, take-take, drop-take, drop-drop, length-take-le, length-map, length_push, get_or-map, map-append, map_push, take-map, drop-map, take-append-le}
-use Rattle.std.proofs.lemmas.Bool.{and_parts, and_from, leb-true, le-leb, not-true, cases_Bool, both_ways}
+use Rattle.std.proofs.lemmas.List.{take_at, drop_at, take-take, drop-take, length-take-le, length-map, length_push, get_or-map, map-append, map_push, take-map, drop-map}
+use Rattle.std.proofs.lemmas.Bool.{and_parts, and_from, leb-true, le-leb, cases_Bool}
 use Rattle.std.proofs.lemmas.Slice.Eq.{bytes_eq-Decides}
-use Rattle.bytemap.specs.Map.{Map, find, insert, remove, gathered, Distinct}
+use Rattle.bytemap.specs.Map.{find, insert, remove, gathered, Distinct}
 use Rattle.bytemap.proofs.Find.{same_self, same_is, apart, find_empty, find_cons, find_gathered}
 use Rattle.bytemap.proofs.Pairs.{find_push, distinct_push, find_at, find_removed, distinct_removed, gathered_insert, gathered_remove, length_gathered}
-use Rattle.log_record.specs.Records.{Record, stored, dropped, valid, encoded, all_encoded, all_valid, Whole}
+use Rattle.log_record.specs.Records.{Record, stored, dropped, valid, encoded, all_valid, Whole}
 use Rattle.log_record.specs.Replay.{done, replayed, stored_pair}
 use Rattle.log_record.specs.Written.{overwritten}
 use Rattle.log_record.proofs.ReadBack.{length_stored, value_encoded, whole_from, whole_push}

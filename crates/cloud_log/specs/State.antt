@@ -1,5 +1,5 @@
 -- The invariant of a log cloud: what it says, and what shows it again.
-use Rattle.std.specs.Prelude.{◌≡◌, ℕ, zero, suc, ◌+◌, ◌-◌, ◌*◌, ◌<◌, ◌≤◌, true, List, [], ◌∷◌, ◌++◌, map, length, take, is_some, IfSome, IfNone, Some, None, vec_items, vec_len, Option, slice_index_or, refl}
+use Rattle.std.specs.Prelude.{◌≡◌, ℕ, zero, suc, ◌+◌, ◌-◌, ◌<◌, ◌≤◌, true, List, [], ◌∷◌, ◌++◌, map, length, take, is_some, IfSome, IfNone, Some, None, vec_items, vec_len, Option, slice_index_or, refl}
 use Rattle.std.proofs.Common.{sym, ap, subst, ◌∙◌, arith}
 use Rattle.std.specs.Vec.{with_items}
 use Rattle.std.proofs.lemmas.List.{with_items_is, length-map}
@@ -19,7 +19,7 @@ use Rattle.cloud_log.specs.declared.log_cloud.LogCloud.{LogCloud}
 use Rattle.cloud_log.specs.Index.{name_of, names, pair_in, laid, Placed, without}
 use Rattle.cloud_log.specs.Closing.{Closed}
 use Rattle.cloud_log.specs.Meaning.{meaning_of, log_of}
-use Rattle.cloud_log.specs.Standing.{name_short, laid_none, laid_higher}
+use Rattle.cloud_log.specs.Standing.{name_short, laid_none}
 use Rattle.cloud_log.specs.Sound.{Sound, sound_closed, held_closed, names_closed, more_bytes, more_held, stored_sound, dropped_sound}
 
 pub sound_of : (s : LogCloud) → Sound (vec_items s.bytes) s.used (vec_items s.index)

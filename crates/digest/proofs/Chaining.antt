@@ -1,5 +1,5 @@
 -- The chaining of the blocks of a padded message.
-use Rattle.std.proofs.Common.{◌≡◌, ℕ, ◌+◌, ◌*◌, ◌/◌, ◌%◌, ◌<◌, ◌≤◌, List, length, set, replicate, sym, refl, ap, ◌∙◌, add-zero, arith}
+use Rattle.std.proofs.Common.{◌≡◌, ℕ, ◌+◌, ◌*◌, ◌/◌, ◌%◌, ◌<◌, ◌≤◌, List, length, set, replicate, sym, ap, ◌∙◌, add-zero, arith}
 use Rattle.digest.specs.Words.{word}
 use Rattle.digest.specs.Rounds.{turned}
 use Rattle.digest.specs.Message.{be8, marked, padded, block, chained}

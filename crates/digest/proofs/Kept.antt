@@ -1,5 +1,5 @@
 -- A digest as it is kept, and the first bytes of a buffer.
-use Rattle.std.proofs.Common.{◌≡◌, ℕ, ◌-◌, Bool, true, false, cond, List, ◌++◌, length, take, Some, None, Option, ap, ◌∙◌, arith}
+use Rattle.std.proofs.Common.{◌≡◌, ℕ, ◌-◌, Bool, true, false, cond, List, ◌++◌, length, take, Some, None, ap, ◌∙◌, arith}
 use Rattle.digest.specs.Value.{is_digest, as_digest}
 use Rattle.std.proofs.lemmas.List.{take_at}
 

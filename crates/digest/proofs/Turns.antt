@@ -1,5 +1,5 @@
 -- Turns, and lists that grow by a word a turn.
-use Rattle.std.proofs.Common.{◌≡◌, ℕ, zero, suc, ◌+◌, ◌<◌, ◌≤◌, List, [], ◌∷◌, ◌++◌, length, get_or, take, sym, refl, ap, ◌∙◌, add-zero, add-suc, add-one, arith}
+use Rattle.std.proofs.Common.{◌≡◌, ℕ, zero, suc, ◌+◌, ◌<◌, ◌≤◌, List, [], ◌∷◌, length, get_or, take, sym, refl, ap, ◌∙◌, add-zero, add-suc, add-one, arith}
 use Rattle.std.proofs.lemmas.List.{length_push, take-append-le, take_all, get_or-take, get_or_at}
 use Rattle.digest.specs.Rounds.{turned, grown}
 

@@ -1,10 +1,10 @@
 -- Rounds over a schedule that is kept in sixteen words are the rounds over the whole schedule.
-use Rattle.std.proofs.Common.{◌≡◌, ℕ, zero, suc, ◌+◌, ◌-◌, ◌%◌, ◌<◌, ◌≤◌, max, cond, ltb, ◌≢◌, ◌⊎◌, List, [], ◌∷◌, length, get_or, take, set, sym, refl, ap, ◌∙◌, inl, inr, add-one, arith}
+use Rattle.std.proofs.Common.{◌≡◌, ℕ, zero, suc, ◌+◌, ◌-◌, ◌%◌, ◌<◌, ◌≤◌, max, ◌≢◌, List, length, get_or, take, sym, refl, ap, ◌∙◌, inl, inr, add-one, arith}
 use Rattle.std.proofs.lemmas.List.{get_or-take, get_or-set_same, get_or-set_other, length-set}
 use Rattle.std.proofs.lemmas.Bool.{lt-ltb, le-ltb, cases_lt, cases_eq}
 use Rattle.digest.specs.Words.{sums}
 use Rattle.digest.specs.Rounds.{turned, scheduled, schedule, rounds, compression, renewed, step}
-use Rattle.digest.proofs.Turns.{turned_more, take_grown, getD_grown}
+use Rattle.digest.proofs.Turns.{take_grown, getD_grown}
 
 -- the mix reads no word but the sixteen before its own
 abbrev pub ReadsSixteen : ((ℕ → ℕ) → ℕ) → Type 0

@@ -2,8 +2,8 @@
 #![tactic(auto)]
 
 ghost use Rattle.std.specs.Prelude.{◌≡◌};
-ghost use Rattle.sha1_digest.specs.Sha1.{sha1 as sha1-digest};
-ghost use Rattle.sha256.specs.Sha256.{sha256 as sha256-digest};
+ghost use Rattle.sha1_digest.specs.Sha1.{sha1 as sha1_of};
+ghost use Rattle.sha256.specs.Sha256.{sha256 as sha256_of};
 
 use sha1_digest::sha1;
 use sha256::sha256;
@@ -11,7 +11,7 @@ use sha256::sha256;
 /// Writes the SHA-1 digest of `value` into `out`.
 #[unsafe(no_mangle)]
 pub extern "C" fn locker_sha1(value: &[u8], out: &mut [u8; 20])
-    ensures { out.new ≡ sha1-digest value.now }
+    ensures { out.new ≡ sha1_of value.now }
 {
     *out = sha1(value);
 }
@@ -19,7 +19,7 @@ pub extern "C" fn locker_sha1(value: &[u8], out: &mut [u8; 20])
 /// Writes the SHA-256 digest of `value` into `out`.
 #[unsafe(no_mangle)]
 pub extern "C" fn locker_sha256(value: &[u8], out: &mut [u8; 32])
-    ensures { out.new ≡ sha256-digest value.now }
+    ensures { out.new ≡ sha256_of value.now }
 {
     *out = sha256(value);
 }

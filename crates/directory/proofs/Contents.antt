@@ -1,12 +1,11 @@
 -- The entries of one container: what they find, and how a search through records in any order finds the next key.
-use Rattle.std.proofs.Common.{◌≡◌, ℕ, ◌<◌, Bool, true, false, cond, ◌&&◌, eqb, ltb, ◌⊎◌, List, [], ◌∷◌, map, length, get_or, Some, None, Option, sym, refl, ap, ◌∙◌, subst, inl, inr, ⊎_elim, arith}
+use Rattle.std.proofs.Common.{◌≡◌, ℕ, ◌<◌, Bool, true, false, cond, ◌&&◌, eqb, ltb, List, [], ◌∷◌, map, length, get_or, Some, None, Option, sym, refl, ap, ◌∙◌, subst, ⊎_elim}
 use Rattle.std.specs.Str.{bytes_eq}
 use Rattle.std.specs.Option.{option_map}
 use Rattle.std.proofs.lemmas.Bool.{cases_Bool, both_ways, eqb-true, eq-eqb, and_from, and_parts}
-use Rattle.std.proofs.lemmas.Bool.Decides.{nat_tests}
 use Rattle.byte_strings.specs.Order.{below, at_most}
 use Rattle.byte_strings.specs.Least.{Least}
-use Rattle.byte_strings.proofs.Order.{below_heads, at_most_heads}
+use Rattle.byte_strings.proofs.Order.{below_heads}
 use Rattle.bytemap.specs.Map.{Map, find, next_key, AllAbove, Ascending, gathered}
 use Rattle.bytemap.proofs.Find.{find_cons, find_empty, find_gathered, none_or_some, ascending_gathered}
 use Rattle.bytemap.proofs.Next.{next_none, next_some, found_at, found_from}

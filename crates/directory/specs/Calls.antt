@@ -1,6 +1,5 @@
 -- What each call at a directory answers and leaves.
-use Rattle.std.specs.Prelude.{ℕ, ◌-◌, Bool, cond, List, ◌++◌, length, drop, Some, None, Option, ◌==◌}
-use Rattle.std.specs.Option.{option_map}
+use Rattle.std.specs.Prelude.{ℕ, ◌-◌, cond, List, ◌++◌, length, drop, Some, None, Option, ◌==◌}
 use Rattle.bytemap.specs.Map.{find, insert, next_key}
 use Rattle.naming.specs.Stamps.{StampValue, no_stamp, stamp_below}
 use Rattle.entry.specs.Entries.{EntryValue}

@@ -1,7 +1,7 @@
 -- A record written behind the first bytes.
-use Rattle.std.proofs.Common.{◌≡◌, ℕ, ◌+◌, ◌-◌, ◌<◌, ◌≤◌, Bool, true, false, cond, leb, List, [], ◌∷◌, ◌++◌, length, take, drop, Some, None, Option, sym, refl, ap, ◌∙◌, ⊎_elim, append_assoc, arith, length-append, length-drop}
+use Rattle.std.proofs.Common.{◌≡◌, ℕ, ◌+◌, ◌-◌, ◌≤◌, true, false, List, ◌++◌, length, take, drop, Some, None, sym, ap, ◌∙◌, ⊎_elim, append_assoc, arith, length-append, length-drop}
 use borrow.Rule.Slice.PartMut.{put_mid, put_same, same_len_mid}
-use Rattle.std.proofs.lemmas.List.{length-take-le, take_at, take-append-drop}
+use Rattle.std.proofs.lemmas.List.{length-take-le, take_at}
 use Rattle.std.proofs.lemmas.Bool.{cases_Bool, leb-true, leb-false}
 use Rattle.journal_record.specs.Records.{RecordValue}
 use Rattle.journal_record.specs.Layout.{encode}

@@ -1,13 +1,13 @@
 -- A commit leaves the number of places.
-use Rattle.std.proofs.Common.{◌≡◌, ℕ, ◌+◌, ◌-◌, ◌<◌, ◌≤◌, true, List, length, Some, None, Option, sym, refl, ap, ◌∙◌, arith}
+use Rattle.std.proofs.Common.{◌≡◌, ℕ, ◌+◌, List, Some, None, Option, refl, ap, arith}
 use Rattle.std.proofs.lemmas.List.{length-map}
-use Rattle.bytemap.specs.Map.{insert, gathered, Ascending}
+use Rattle.bytemap.specs.Map.{Ascending}
 use Rattle.bytemap.proofs.Pairs.{length_insert, length_insert_again, length_gathered}
 use Rattle.entry.specs.Entries.{EntryValue}
 use Rattle.directory.specs.declared.interface.CommitAnswer.{CommitAnswer}
 use Rattle.directory.specs.declared.interface.CommitAnswer.TheVariants.{Committed, Older, Full}
 use Rattle.directory.specs.Meaning.{DirectoryMeaning, address}
-use Rattle.directory.specs.Calls.{entry_of, commit_answer, commit_after, when_committed, free_after}
+use Rattle.directory.specs.Calls.{entry_of, commit_answer, commit_after, when_committed}
 use Rattle.directory_table.specs.declared.table.Table.{Table}
 use Rattle.directory_table.specs.Entries.{pair, pairs}
 use Rattle.directory_table.specs.Making.{table_entries, table_meaning}

@@ -1,21 +1,20 @@
 -- Entries of different keys are accepted in turn, and make the directory that they stand for.
-use Rattle.std.proofs.Common.{◌≡◌, ℕ, zero, suc, ◌+◌, ◌-◌, ◌<◌, ◌≤◌, Bool, true, false, cond, ◌&&◌, eqb, leb, List, [], ◌∷◌, ◌++◌, map, length, Some, None, Ok, Option, sym, refl, ap, ◌∙◌, subst, ⊎_elim, arith}
+use Rattle.std.proofs.Common.{◌≡◌, ℕ, ◌-◌, ◌≤◌, true, false, eqb, List, [], ◌∷◌, length, Some, None, Option, sym, refl, ap, ◌∙◌, subst, ⊎_elim, arith}
 use Rattle.std.specs.Str.{bytes_eq}
-use Rattle.std.proofs.lemmas.Bool.{cases_Bool, both_ways, and_parts, leb-true, ne_eqb}
+use Rattle.std.proofs.lemmas.Bool.{cases_Bool, ne_eqb}
 use Rattle.std.proofs.lemmas.Bool.Decides.{nat_tests}
-use Rattle.bytemap.specs.Map.{Map, find, insert, gathered, Ascending, Distinct}
+use Rattle.bytemap.specs.Map.{find, insert, gathered, Ascending, Distinct}
 use Rattle.bytemap.proofs.Find.{same_self, same_is, find_cons, find_empty, find_insert, find_gathered, ascending_insert, ascending_gathered, same_map}
 use Rattle.naming.specs.Stamps.{StampValue, no_stamp, stamp_below}
 use Rattle.naming.proofs.Keys.{key_is_valid}
-use Rattle.entry.specs.Entries.{EntryValue, ValidEntry, stamp_taken}
+use Rattle.entry.specs.Entries.{EntryValue, stamp_taken}
 use Rattle.entry.proofs.Valid.{entry_is_valid}
-use Rattle.directory.specs.declared.interface.CommitAnswer.{CommitAnswer}
 use Rattle.directory.specs.declared.interface.CommitAnswer.TheVariants.{Committed}
-use Rattle.directory.specs.Meaning.{DirectoryMeaning, address}
-use Rattle.directory.specs.Calls.{entry_of, commit_answer, commit_after}
+use Rattle.directory.specs.Meaning.{DirectoryMeaning}
+use Rattle.directory.specs.Calls.{commit_answer, commit_after}
 use Rattle.directory_table.specs.declared.keyed_entry.KeyedEntry.{KeyedEntry}
 use Rattle.directory_table.specs.Entries.{key_address, value_of, pair, pairs, meaning_of}
-use Rattle.journal_record.specs.Records.{RecordValue, ValidRecord}
+use Rattle.journal_record.specs.Records.{ValidRecord}
 use Rattle.directory_journal.specs.Replay.{empty_directory, accepts, after_record}
 use Rattle.directory_journal.specs.Records.{record_of, records_of, AllAccepted, after_records}
 

@@ -1,9 +1,8 @@
 -- What opening answers, by whether storage is supported and what the bytes replay to.
-use Rattle.std.proofs.Common.{◌≡◌, ℕ, ◌+◌, ◌*◌, ◌<◌, ◌≤◌, Bool, true, false, cond, ◌&&◌, leb, List, [], length, Ok, Err, vec_items, vec_capacity, Result, sym, refl, ap, ◌∙◌, subst, arith}
+use Rattle.std.proofs.Common.{◌≡◌, ℕ, ◌+◌, ◌*◌, ◌<◌, ◌≤◌, true, false, List, length, Ok, Err, vec_items, vec_capacity, Result, sym, ap, ◌∙◌, arith}
 use Rattle.std.proofs.lemmas.Bool.{and_left, and_right, and_from, le-leb, lt-leb}
 use Rattle.std.proofs.lemmas.Bool.Decides.{nat_tests}
-use Rattle.refusal.specs.declared.Refusal.{Refusal}
-use Rattle.refusal.specs.declared.Refusal.TheVariants.{UnsupportedStorage, CorruptJournal}
+use Rattle.refusal.specs.declared.Refusal.TheVariants.{UnsupportedStorage}
 use Rattle.refusal.specs.declared.Rejected.{Rejected}
 use Rattle.directory.specs.Meaning.{DirectoryMeaning}
 use Rattle.directory_table.specs.declared.table.Table.{Table}

@@ -1,5 +1,5 @@
 -- The bytes of a journal, opened again, mean what the journal means.
-use Rattle.std.proofs.Common.{◌≡◌, ℕ, ◌+◌, ◌*◌, ◌≤◌, true, List, [], ◌∷◌, length, Ok, sym, refl, ap, ◌∙◌, subst, arith}
+use Rattle.std.proofs.Common.{◌≡◌, ℕ, ◌+◌, ◌*◌, ◌≤◌, List, [], ◌∷◌, length, Ok, sym, refl, ap, ◌∙◌, arith}
 use Rattle.bytemap.specs.Map.{Ascending}
 use Rattle.bytemap.proofs.Find.{ascending_insert, ascending_gathered}
 use Rattle.entry.specs.Entries.{EntryValue}

@@ -1,5 +1,5 @@
 -- What a journal means.
-use Rattle.std.specs.Prelude.{ℕ, ◌+◌, List, length, vec_items}
+use Rattle.std.specs.Prelude.{ℕ, List, vec_items}
 use Rattle.directory.specs.Meaning.{DirectoryMeaning}
 use Rattle.directory_table.specs.Making.{table_meaning}
 use Rattle.directory_journal.specs.Capacity.{capacity}

@@ -1,5 +1,5 @@
 -- From the search over all containers to the next key of one.
-use Rattle.std.proofs.Common.{◌≡◌, ℕ, ◌<◌, Bool, List, [], ◌∷◌, length, get_or, Some, None, Option, refl}
+use Rattle.std.proofs.Common.{◌≡◌, ℕ, Bool, List, [], ◌∷◌, length, get_or, Some, None, Option, refl}
 use Rattle.std.specs.Option.{option_map}
 use Rattle.byte_strings.specs.Least.{Least, LeastAt, NonePasses}
 use Rattle.byte_strings.proofs.Least.{narrow_none, narrow_found, narrow_past}

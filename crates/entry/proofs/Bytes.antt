@@ -1,5 +1,5 @@
 -- Bytes of a slice are bytes.
-use Rattle.std.proofs.Common.{◌≡◌, ℕ, zero, suc, ◌^◌, ◌<◌, ◌≤◌, true, false, ◌&&◌, leb, List, [], ◌∷◌, get_or, Some, None, sym, refl, subst, ⊎_elim, arith, w8, Fits}
+use Rattle.std.proofs.Common.{◌≡◌, ℕ, suc, true, false, ◌&&◌, leb, List, [], ◌∷◌, get_or, Some, None, sym, refl, subst, ⊎_elim, arith, w8, Fits}
 use Rattle.std.proofs.lemmas.Bool.{and_from, and_left, cases_Bool, le-leb}
 use Rattle.digest.specs.Value.{is_digest, as_digest}
 use Rattle.entry.specs.Bytes.{all_bytes, digest_fits}

@@ -1,9 +1,7 @@
 -- Every entry keeps its limits.
-use Rattle.std.proofs.Common.{◌≡◌, true, IfSome, Some, None, Option, arith}
+use Rattle.std.proofs.Common.{◌≡◌, true, IfSome, Some, None, Option}
 use Rattle.std.specs.Option.{option_map}
 use Rattle.std.proofs.lemmas.Bool.{and_from, le-leb}
-use Rattle.naming.specs.declared.stamp.Stamp.{Stamp}
-use Rattle.naming.specs.Stamps.{ValidStamp, stamp_value}
 use Rattle.entry.specs.declared.live.Live.{Live}
 use Rattle.entry.specs.declared.entry.Entry.{Entry}
 use Rattle.entry.specs.Entries.{ValidEntry, entry_value, live_value, valid_live}

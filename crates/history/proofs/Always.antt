@@ -1,28 +1,13 @@
 -- The invariant holds after every run.
-use Rattle.std.proofs.Common.{◌≡◌, ℕ, zero, suc, ◌-◌, ◌<◌, ◌≤◌, Bool, true, false, cond, ◌&&◌, eqb, leb, ◌⊎◌, List, [], ◌∷◌, length, get_or, set, replicate, Some, None, Option, sym, refl, ap, ◌∙◌, subst, inl, inr, ⊎_elim, arith, length-set, get_or-set_other, get_or-set_same}
-use native.Mathlib.Decide.{ℕ_discrete}
-use Rattle.std.specs.Str.{bytes_eq}
-use Rattle.std.proofs.lemmas.Bool.{cases_Bool, and_parts, leb-true, eq-eqb, ne_eqb, eqb-true, eqb-false, both_ways}
-use Rattle.bytemap.specs.Map.{find, insert, Ascending}
-use Rattle.bytemap.proofs.Find.{find_insert, same_is, ascending_insert}
-use Rattle.naming.specs.Stamps.{StampValue, stamp_below, next_stamp}
-use Rattle.naming.proofs.Stamps.{stamp_below_irreflexive, stamp_below_transitive, below_next_stamp}
-use Rattle.entry.specs.Entries.{EntryValue, LiveValue, lists}
+use Rattle.std.proofs.Common.{◌≡◌, ℕ, zero, suc, true, List, [], length, get_or, replicate, Some, None, Option, sym, refl, ap, ◌∙◌, subst, arith}
+use Rattle.bytemap.specs.Map.{find, Ascending}
+use Rattle.entry.specs.Entries.{EntryValue}
 use Rattle.cloud.specs.Meaning.{CloudMeaning}
-use Rattle.row.specs.Rows.{no_cloud}
-use Rattle.directory.specs.Meaning.{DirectoryMeaning, address}
-use Rattle.directory.specs.Calls.{entry_of, stamp_of}
-use Rattle.protocol.specs.Slots.{SlotValue, SavingValue, FetchingValue, SweepingValue, idle, saving, fetching, sweeping}
-use Rattle.protocol.specs.State.{Setting, State, valid_party, slot_of, with_slot, with_clouds, with_directory}
-use Rattle.protocol.specs.Grounds.{saved_entry}
-use Rattle.protocol.specs.Steps.{begun, acknowledged, new_stamp, deleted_entry}
-use Rattle.history.specs.Deeds.{Deed, History, nothing, began, stores, commits_save, deletes, looks_first, looks_on, completes, ends, latest, or_else, when, begins, Change, saved, erased, same_key, saved_at, commits, stored_at, asks, looks, runs}
-use Rattle.naming.specs.Names.{name_of}
-use Rattle.naming.proofs.Names.{names_are_distinct}
-use Rattle.history.proofs.Clouds.{keeps_self, Keeps, KeepsOne, AnyName, OtherThan, NotBelow}
-use Rattle.history.proofs.Sets.{with_cloud_is, none_listed}
-use Rattle.history.proofs.Effects.{Effect, quiet, asked, began_one, stored_one, committed_one, passed, deleted_one, looked, looked_on, completed, ended, began_sweeping, swept_one, fetch, save_name}
-use Rattle.history.proofs.Invariant.{Fits, EntryOk, View, view, NotBy, same_view, Holds, ListedOk, SavingOk, FetchingOk, SweepingOk, SlotOk, Inv, Rises, KeepsName, slot_on}
+use Rattle.directory.specs.Meaning.{address}
+use Rattle.protocol.specs.Slots.{SlotValue, idle}
+use Rattle.protocol.specs.State.{Setting, State}
+use Rattle.history.specs.Deeds.{History, latest, runs}
+use Rattle.history.proofs.Invariant.{EntryOk, view, SlotOk, Inv}
 use Rattle.bytemap.proofs.Find.{find_empty}
 use Rattle.history.specs.Promises.{Run, start, then, OpenedEmpty}
 use Rattle.history.proofs.Stepped.{effect_of}

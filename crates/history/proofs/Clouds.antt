@@ -1,12 +1,12 @@
 -- What the calls at a row leave of what its sound clouds hold.
-use Rattle.std.proofs.Common.{◌≡◌, ℕ, suc, ◌<◌, ◌≤◌, Bool, true, false, List, length, get_or, take, set, Some, None, Ok, Err, Result, sym, refl, ap, ◌∙◌, subst, ⊎_elim, arith, length-set, get_or-set_other}
+use Rattle.std.proofs.Common.{◌≡◌, ℕ, ◌<◌, ◌≤◌, true, List, length, get_or, Some, None, Ok, Err, Result, sym, refl, ap, ◌∙◌, ⊎_elim, length-set, get_or-set_other}
 use native.Mathlib.Decide.{ℕ_discrete}
 use lib.Seq.{set_out}
 use Rattle.std.proofs.lemmas.Bool.{cases_lt}
 use Rattle.refusal.specs.declared.Cause.{Cause}
 use Rattle.byte_strings.specs.Order.{below}
 use Rattle.bytemap.specs.Map.{find}
-use Rattle.naming.specs.Stamps.{StampValue, ValidStamp, stamp_below}
+use Rattle.naming.specs.Stamps.{StampValue, stamp_below}
 use Rattle.naming.specs.Names.{name_of, IsNameOf}
 use Rattle.naming.proofs.Names.{names_keep_the_order_of_stamps}
 use Rattle.cloud.specs.Meaning.{CloudMeaning}

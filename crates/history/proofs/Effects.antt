@@ -1,36 +1,24 @@
 -- What a step does to the state, by what came of the call: the little that the promises rest on.
-use Rattle.std.proofs.Common.{◌≡◌, ℕ, ◌<◌, ◌≤◌, Bool, true, false, cond, not, ◌&&◌, eqb, ltb, leb, List, [], ◌∷◌, ◌++◌, length, get_or, take, drop, Some, None, Ok, Err, Option, Result, sym, refl, ap, ◌∙◌, subst, ⊎_elim, arith}
-use Rattle.std.specs.Str.{bytes_eq}
-use Rattle.std.proofs.lemmas.Bool.{cases_Bool, not-false, leb-false, and_parts, eqb-true}
-use Rattle.std.proofs.lemmas.List.{take_at}
-use Rattle.refusal.specs.declared.Refusal.{Refusal}
-use Rattle.refusal.specs.declared.Refusal.TheVariants.{NoEntry}
-use Rattle.refusal.specs.Numbers.{refusal_number}
+use Rattle.std.proofs.Common.{◌≡◌, ℕ, ◌<◌, Bool, true, false, cond, not, List, length, get_or, Some, None, Option, refl, ap, ◌∙◌, arith}
 use Rattle.bytemap.specs.Map.{find, insert}
-use Rattle.bytemap.proofs.Find.{same_is}
 use Rattle.naming.specs.Stamps.{StampValue, stamp_below, next_stamp}
 use Rattle.naming.specs.Names.{name_of}
 use Rattle.naming.proofs.Stamps.{below_next_stamp}
 use Rattle.entry.specs.Entries.{EntryValue, LiveValue}
 use Rattle.cloud.specs.Meaning.{CloudMeaning}
-use Rattle.cloud.specs.Outcomes.{Done, Length, PutOutcome, GetOutcome, put_after, put_answer, when_put}
-use Rattle.row.specs.Rows.{no_cloud, Called}
+use Rattle.row.specs.Rows.{no_cloud}
 use Rattle.directory.specs.declared.interface.CommitAnswer.{CommitAnswer}
 use Rattle.directory.specs.declared.interface.CommitAnswer.TheVariants.{Committed as Set, Older, Full}
 use Rattle.directory.specs.Meaning.{DirectoryMeaning, address}
 use Rattle.directory.specs.Calls.{entry_of, stamp_of, commit_answer, commit_after, when_committed, place_answer}
-use Rattle.protocol.specs.declared.answers.CommitOutcome.{CommitOutcome}
 use Rattle.protocol.specs.declared.answers.CommitOutcome.TheVariants.{Committed, Passed}
 use Rattle.protocol.specs.Clouds.{count}
 use Rattle.protocol.specs.Slots.{SlotValue, SavingValue, FetchingValue, SweepingValue, idle, saving, fetching, sweeping}
 use Rattle.protocol.specs.State.{Setting, State, valid_party, slot_of, with_slot, with_clouds, with_directory}
-use Rattle.protocol.specs.Calls.{Call, begin_save, store, commit, delete, begin_fetch, try_cloud, look_again, begin_sweep, sweep, leave, list}
-use Rattle.protocol.specs.Grounds.{first_ground, first_of, caller_grounds, slot_grounds, directory_grounds, buffer_grounds, live_of, is_there, has_no_live, saved_entry, is_begun_value}
-use Rattle.protocol.specs.Events.{Event, FoundValue, began_save, stored, committed, deleted, began_fetch, tried, looked_again, began_sweep, swept, left, listed}
-use Rattle.protocol.specs.Steps.{Step, Does, Asks, Stores, Tries, Sweeps, or_refused, or_kept, or_unwritten, saving_of, fetching_of, sweeping_of, begun, acknowledged, new_stamp, deleted_entry, after_commit, after_delete, after_look, commit_outcome, found_entry, fetch_of, store_answer, after_store, try_answer, part_after, after_try, is_saved_value}
-use Rattle.history.specs.Deeds.{Deed, deed, nothing, began, stores, commits_save, deletes, looks_first, looks_on, completes, ends}
-use Rattle.history.proofs.Clouds.{Keeps, KeepsOne, AnyName, OtherThan, NotBelow, called_keeps, put_keeps, put_holds, get_keeps, swept_keeps}
-use Rattle.history.proofs.Grounds.{NoneHolds, none_holds, then_first, first_of_both, NoneNumbered, other_number, accepted, rejected, idle_is, saving_is, fetching_is, sweeping_is, of_saving_is, of_fetching_is}
+use Rattle.protocol.specs.Grounds.{live_of, is_there, saved_entry}
+use Rattle.protocol.specs.Steps.{begun, acknowledged, new_stamp, deleted_entry, commit_outcome}
+use Rattle.history.specs.Deeds.{Deed, nothing, began, stores, commits_save, deletes, looks_first, looks_on, completes, ends}
+use Rattle.history.proofs.Clouds.{Keeps, AnyName, OtherThan, NotBelow}
 
 abbrev pub fetch : ℕ → List ℕ → StampValue → LiveValue → SlotValue
 fetch c k stamp l = fetching (record { container = c; key = k; stamp = stamp; live = l })

@@ -1,20 +1,20 @@
 -- Completed fetches answer the latest save, and listings name exactly the saved keys.
-use Rattle.std.proofs.Common.{◌≡◌, ℕ, true, List, [], ◌∷◌, length, take, Some, None, Ok, Option, sym, refl, ap, ◌∙◌, subst}
+use Rattle.std.proofs.Common.{◌≡◌, ℕ, List, length, take, Ok, Option, sym, refl, ap, ◌∙◌}
 use Rattle.refusal.specs.declared.Refusal.{Refusal}
 use Rattle.cloud.specs.Meaning.{CloudMeaning}
 use Rattle.cloud.specs.Outcomes.{over}
 use Rattle.protocol.specs.declared.answers.Listed.{Listed}
-use Rattle.protocol.specs.Slots.{FetchingValue, fetching}
+use Rattle.protocol.specs.Slots.{fetching}
 use Rattle.protocol.specs.State.{Setting, State}
 use Rattle.protocol.specs.Listing.{keys_of, listing}
 use Rattle.protocol.specs.Calls.{list}
 use Rattle.protocol.specs.Grounds.{first_ground}
 use Rattle.protocol.specs.Events.{tried, listed}
 use Rattle.protocol.specs.Steps.{Step, or_kept}
-use Rattle.history.specs.Deeds.{History, completes, latest, commits}
+use Rattle.history.specs.Deeds.{History, latest, commits}
 use Rattle.history.specs.Promises.{AnswersTheLatestSave, NamesTheSavedKeys, here, before}
 use Rattle.history.proofs.Grounds.{accepted}
-use Rattle.history.proofs.Stepped.{Matched, matched}
+use Rattle.history.proofs.Stepped.{matched}
 use Rattle.history.proofs.Invariant.{FetchingOk, Inv, view}
 use Rattle.history.proofs.Kept.{own}
 use Rattle.history.proofs.Values.{seen_is_named}

@@ -1,13 +1,12 @@
 -- What is known where no ground of refusal holds, and where one does.
-use Rattle.std.proofs.Common.{◌≡◌, ℕ, Bool, true, false, cond, not, eqb, List, [], ◌∷◌, ◌++◌, Some, None, Ok, Err, Option, Result, sym, refl, ap, ◌∙◌, subst, ⊎_elim, arith}
-use Rattle.std.proofs.lemmas.Bool.{cases_Bool}
+use Rattle.std.proofs.Common.{◌≡◌, ℕ, Bool, true, false, cond, not, eqb, List, [], ◌∷◌, ◌++◌, Some, None, Ok, Err, Option, sym, refl, ap, subst, arith}
 use Rattle.refusal.specs.declared.Refusal.{Refusal}
 use Rattle.refusal.specs.Numbers.{refusal_number}
 use Rattle.protocol.specs.Slots.{SlotValue, SavingValue, FetchingValue, idle, saving, fetching, sweeping, is_idle, is_saving, is_fetching, is_sweeping, of_saving, of_fetching}
 use Rattle.protocol.specs.State.{Setting, State}
 use Rattle.protocol.specs.Calls.{Call}
 use Rattle.protocol.specs.Grounds.{Ground, first_of}
-use Rattle.protocol.specs.Steps.{or_refused, or_kept, saving_of, fetching_of, sweeping_of}
+use Rattle.protocol.specs.Steps.{or_refused, saving_of, fetching_of, sweeping_of}
 
 -- ---- tables of grounds
 

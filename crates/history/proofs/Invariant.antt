@@ -1,23 +1,17 @@
 -- What holds after every history: directory, slots and clouds are what the history says.
-use Rattle.std.proofs.Common.{◌≡◌, ℕ, suc, ◌-◌, ◌<◌, ◌≤◌, Bool, true, false, cond, ◌&&◌, eqb, leb, ◌⊎◌, List, [], ◌∷◌, length, get_or, set, Some, None, Option, sym, refl, ap, ◌∙◌, subst, inl, inr, ⊎_elim, arith, length-set, get_or-set_other, get_or-set_same}
-use native.Mathlib.Decide.{ℕ_discrete}
-use Rattle.std.specs.Str.{bytes_eq}
-use Rattle.std.proofs.lemmas.Bool.{cases_Bool, and_parts, leb-true, eq-eqb, ne_eqb, eqb-false, both_ways}
-use Rattle.bytemap.specs.Map.{find, insert, Ascending}
-use Rattle.bytemap.proofs.Find.{find_insert, same_is, ascending_insert}
-use Rattle.naming.specs.Stamps.{StampValue, stamp_below, next_stamp}
-use Rattle.naming.proofs.Stamps.{stamp_below_irreflexive, stamp_below_transitive, below_next_stamp}
+use Rattle.std.proofs.Common.{◌≡◌, ℕ, suc, ◌<◌, Bool, true, false, eqb, ◌⊎◌, List, ◌∷◌, length, get_or, Some, None, Option, sym, refl, ap, ◌∙◌, subst, ⊎_elim}
+use Rattle.std.proofs.lemmas.Bool.{cases_Bool, both_ways}
+use Rattle.bytemap.specs.Map.{find, Ascending}
+use Rattle.naming.specs.Stamps.{StampValue, stamp_below}
+use Rattle.naming.proofs.Stamps.{stamp_below_transitive}
 use Rattle.entry.specs.Entries.{EntryValue, LiveValue, lists}
 use Rattle.cloud.specs.Meaning.{CloudMeaning}
 use Rattle.row.specs.Rows.{no_cloud}
-use Rattle.directory.specs.Meaning.{DirectoryMeaning, address}
+use Rattle.directory.specs.Meaning.{DirectoryMeaning}
 use Rattle.directory.specs.Calls.{entry_of, stamp_of}
 use Rattle.protocol.specs.Slots.{SlotValue, SavingValue, FetchingValue, SweepingValue, idle, saving, fetching, sweeping}
-use Rattle.protocol.specs.State.{Setting, State, valid_party, slot_of, with_slot, with_clouds, with_directory}
-use Rattle.protocol.specs.Grounds.{saved_entry}
-use Rattle.protocol.specs.Steps.{begun, acknowledged, new_stamp, deleted_entry}
-use Rattle.history.specs.Deeds.{Deed, History, nothing, began, stores, commits_save, deletes, looks_first, looks_on, completes, ends, latest, or_else, when, begins, Change, saved, erased, same_key, saved_at, commits, stored_at, asks, looks, runs}
-use Rattle.history.proofs.Clouds.{Keeps, KeepsOne}
+use Rattle.protocol.specs.State.{Setting, State}
+use Rattle.history.specs.Deeds.{Deed, History, nothing, began, stores, commits_save, deletes, looks_first, looks_on, completes, ends, latest, begins, Change, saved, erased, commits, stored_at, asks, looks, runs}
 use Rattle.history.proofs.Effects.{save_name}
 
 -- ---- the directory

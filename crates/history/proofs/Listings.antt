@@ -1,13 +1,13 @@
 -- A listing has exactly the keys of live entries, ascending.
-use Rattle.std.proofs.Common.{◌≡◌, ℕ, Bool, true, false, cond, ◌↔◌, List, [], ◌∷◌, Some, None, Option, sym, refl, ap, ◌∙◌, subst, ⊎_elim, arith}
+use Rattle.std.proofs.Common.{◌≡◌, ℕ, Bool, true, false, cond, ◌↔◌, List, [], ◌∷◌, Some, None, Option, sym, refl, ap, ◌∙◌, ⊎_elim, arith}
 use mathlib.Core.List.{Memᴰ}
 use Rattle.std.specs.Str.{bytes_eq}
-use Rattle.std.proofs.lemmas.Bool.{cases_Bool, both_ways}
+use Rattle.std.proofs.lemmas.Bool.{cases_Bool}
 use Rattle.byte_strings.specs.Order.{below}
 use Rattle.bytemap.specs.Map.{Map, find, Ascending, AllAbove}
 use Rattle.bytemap.proofs.Find.{find_cons, find_empty, same_self, same_is, not_above, below_apart}
 use Rattle.entry.specs.Entries.{EntryValue, LiveValue}
-use Rattle.directory.specs.Meaning.{DirectoryMeaning, address, contents}
+use Rattle.directory.specs.Meaning.{DirectoryMeaning, contents}
 use Rattle.directory.specs.Calls.{entry_of}
 use Rattle.directory.proofs.Contents.{find_contents, ascending_contents}
 use Rattle.protocol.specs.Listing.{live_keys, key_if_live, keys_of}

@@ -1,49 +1,39 @@
 -- Committed saves can be fetched.
-use Rattle.std.proofs.Common.{◌≡◌, ℕ, zero, suc, ◌-◌, ◌<◌, ◌≤◌, Bool, true, false, cond, not, ◌&&◌, ◌||◌, eqb, ltb, leb, ◌⊎◌, List, [], ◌∷◌, ◌++◌, length, get_or, take, drop, set, Some, None, Ok, Err, Option, Result, sym, refl, ap, ◌∙◌, subst, inl, inr, ⊎_elim, arith, length-set, length-take-le, get_or-set_other, get_or-set_same}
-use native.Mathlib.Decide.{ℕ_discrete}
+use Rattle.std.proofs.Common.{◌≡◌, ℕ, zero, suc, ◌-◌, ◌<◌, ◌≤◌, Bool, true, false, cond, eqb, ltb, leb, ◌⊎◌, List, [], ◌∷◌, ◌++◌, length, get_or, take, drop, set, Some, None, Ok, Err, Option, Result, sym, refl, ap, ◌∙◌, subst, inl, inr, ⊎_elim, arith, length-take-le}
 use Rattle.std.specs.Str.{bytes_eq}
-use Rattle.std.proofs.lemmas.Bool.{cases_Bool, and_parts, leb-true, eq-eqb, ne_eqb, eqb-true, eqb-false, both_ways, cases_lt, le-leb, lt-leb, le-ltb, and_from}
-use Rattle.bytemap.specs.Map.{find, insert, Ascending}
-use Rattle.bytemap.proofs.Find.{find_insert, same_is, ascending_insert}
-use Rattle.naming.specs.Stamps.{StampValue, stamp_below, next_stamp}
-use Rattle.naming.proofs.Stamps.{stamp_below_irreflexive, stamp_below_transitive, below_next_stamp}
-use Rattle.entry.specs.Entries.{EntryValue, LiveValue, lists}
+use Rattle.std.proofs.lemmas.Bool.{and_parts, leb-true, eq-eqb, ne_eqb, cases_lt, le-leb, lt-leb, le-ltb, and_from}
+use Rattle.bytemap.specs.Map.{find}
+use Rattle.naming.specs.Stamps.{StampValue}
+use Rattle.entry.specs.Entries.{LiveValue, lists}
 use Rattle.cloud.specs.Meaning.{CloudMeaning}
 use Rattle.row.specs.Rows.{no_cloud}
 use Rattle.directory.specs.Meaning.{DirectoryMeaning, address}
-use Rattle.directory.specs.Calls.{entry_of, stamp_of}
-use Rattle.protocol.specs.Slots.{SlotValue, SavingValue, FetchingValue, SweepingValue, idle, saving, fetching, sweeping}
-use Rattle.protocol.specs.State.{Setting, State, valid_party, slot_of, with_slot, with_clouds, with_directory}
+use Rattle.directory.specs.Calls.{entry_of}
+use Rattle.protocol.specs.Slots.{SlotValue, SavingValue, FetchingValue, idle, saving, fetching, sweeping}
+use Rattle.protocol.specs.State.{Setting, State, valid_party, slot_of, with_slot, with_directory}
 use Rattle.protocol.specs.Grounds.{saved_entry}
-use Rattle.protocol.specs.Steps.{begun, acknowledged, new_stamp, deleted_entry}
-use Rattle.history.specs.Deeds.{Deed, History, nothing, began, stores, commits_save, deletes, looks_first, looks_on, completes, ends, latest, or_else, when, begins, Change, saved, erased, same_key, saved_at, commits, stored_at, asks, looks, runs}
+use Rattle.history.specs.Deeds.{Deed, History, commits_save, latest, commits, asks, looks, runs}
 use Rattle.naming.specs.Names.{name_of}
-use Rattle.naming.proofs.Names.{names_are_distinct}
-use Rattle.history.proofs.Clouds.{keeps_self, Keeps, KeepsOne, AnyName, OtherThan, NotBelow}
-use Rattle.history.proofs.Sets.{with_cloud_is, none_listed}
-use Rattle.history.proofs.Effects.{Effect, quiet, asked, began_one, stored_one, committed_one, passed, deleted_one, looked, looked_on, completed, ended, began_sweeping, swept_one, fetch, save_name}
-use Rattle.history.specs.Promises.{IsSome, SomeIn, NoneIn, Run, start, then, Different, AtMostUnsound, CanBeFetched}
+use Rattle.history.proofs.Effects.{Effect, quiet, asked, began_one, stored_one, committed_one, passed, deleted_one, looked, looked_on, completed, ended, began_sweeping, swept_one, save_name}
+use Rattle.history.specs.Promises.{SomeIn, NoneIn, Run, start, then, AtMostUnsound, CanBeFetched}
 use Rattle.history.proofs.Sets.{chosen_is, listed_differ, listed_count}
-use Rattle.history.proofs.Kept.{eqb_self, entry_set, own, set_slots, kept}
+use Rattle.history.proofs.Kept.{entry_set, own, kept}
 use Rattle.history.proofs.Always.{goes_on}
 use Rattle.history.proofs.Stepped.{effect_of}
-use Rattle.history.proofs.Serving.{Track, Same, saved_live, same_none, track_run}
-use Rattle.history.proofs.Invariant.{Fits, EntryOk, View, view, NotBy, same_view, Holds, ListedOk, SavingOk, FetchingOk, SweepingOk, SlotOk, Inv, Rises, KeepsName, slot_on}
+use Rattle.history.proofs.Serving.{Track, Same, same_none, track_run}
+use Rattle.history.proofs.Invariant.{View, view, Holds, SavingOk, FetchingOk, SlotOk, Inv}
 use mathlib.Core.List.Memᴰ
 use mathlib.Core.List.{Memᴰ}
 use lib.Seq.{drop-length}
-use Rattle.refusal.specs.declared.Cause.{Cause}
-use Rattle.refusal.specs.declared.Cause.TheVariants.{Silent, TooLong, NotHeld}
+use Rattle.refusal.specs.declared.Cause.TheVariants.{TooLong}
 use Rattle.refusal.specs.declared.Refusal.{Refusal}
 use Rattle.refusal.specs.declared.Refusal.TheVariants.{ValueMismatch}
 use Rattle.bytemap.proofs.Find.{same_self}
 use Rattle.cloud.specs.Outcomes.{Length, GetOutcome, get_answer, get_part, length_within, part_within, over}
-use Rattle.row.specs.Rows.{Called}
-use Rattle.protocol.specs.declared.answers.CommitOutcome.TheVariants.{Committed}
 use Rattle.protocol.specs.Clouds.{chosen, all_clouds, count}
 use Rattle.protocol.specs.Calls.{try_cloud}
 use Rattle.protocol.specs.Grounds.{first_ground}
-use Rattle.protocol.specs.Events.{committed, tried}
+use Rattle.protocol.specs.Events.{tried}
 use Rattle.protocol.specs.Steps.{Step, Asks, Tries, fetching_of, try_answer, is_saved_value}
 
 -- ---- party 0 is no party

@@ -1,33 +1,26 @@
 -- After a save is committed, one cloud of its list serves it until the next commit to its key.
-use Rattle.std.proofs.Common.{◌≡◌, ℕ, suc, ◌-◌, ◌<◌, ◌≤◌, Bool, true, false, cond, ◌&&◌, eqb, leb, ◌⊎◌, List, [], ◌∷◌, length, get_or, set, Some, None, Option, sym, refl, ap, ◌∙◌, subst, inl, inr, ⊎_elim, arith, length-set, get_or-set_other, get_or-set_same}
-use native.Mathlib.Decide.{ℕ_discrete}
-use Rattle.std.specs.Str.{bytes_eq}
-use Rattle.std.proofs.lemmas.Bool.{cases_Bool, and_parts, leb-true, eq-eqb, ne_eqb, eqb-true, eqb-false, both_ways}
-use Rattle.bytemap.specs.Map.{find, insert, Ascending}
-use Rattle.bytemap.proofs.Find.{find_insert, same_is, ascending_insert}
-use Rattle.naming.specs.Stamps.{StampValue, stamp_below, next_stamp}
-use Rattle.naming.proofs.Stamps.{stamp_below_irreflexive, stamp_below_transitive, below_next_stamp}
-use Rattle.entry.specs.Entries.{EntryValue, LiveValue, lists}
+use Rattle.std.proofs.Common.{◌≡◌, ℕ, suc, ◌-◌, Bool, true, false, cond, eqb, ◌⊎◌, List, get_or, set, Some, None, Option, sym, refl, ap, ◌∙◌, ⊎_elim, arith}
+use Rattle.std.proofs.lemmas.Bool.{both_ways}
+use Rattle.bytemap.specs.Map.{insert}
+use Rattle.naming.specs.Stamps.{StampValue, stamp_below}
+use Rattle.entry.specs.Entries.{EntryValue, LiveValue}
 use Rattle.cloud.specs.Meaning.{CloudMeaning}
 use Rattle.row.specs.Rows.{no_cloud}
 use Rattle.directory.specs.Meaning.{DirectoryMeaning, address}
 use Rattle.directory.specs.Calls.{entry_of, stamp_of}
-use Rattle.protocol.specs.Slots.{SlotValue, SavingValue, FetchingValue, SweepingValue, idle, saving, fetching, sweeping}
-use Rattle.protocol.specs.State.{Setting, State, valid_party, slot_of, with_slot, with_clouds, with_directory}
+use Rattle.protocol.specs.Slots.{SlotValue, SavingValue, SweepingValue, idle, saving, fetching, sweeping}
+use Rattle.protocol.specs.State.{Setting, State, valid_party, slot_of, with_slot, with_clouds}
 use Rattle.protocol.specs.Grounds.{saved_entry}
 use Rattle.protocol.specs.Steps.{begun, acknowledged, new_stamp, deleted_entry}
-use Rattle.history.specs.Deeds.{Deed, History, nothing, began, stores, commits_save, deletes, looks_first, looks_on, completes, ends, latest, or_else, when, begins, Change, saved, erased, same_key, saved_at, commits, stored_at, asks, looks, runs}
-use Rattle.naming.specs.Names.{name_of}
+use Rattle.history.specs.Deeds.{Deed, History, nothing, began, stores, commits_save, deletes, looks_first, looks_on, completes, ends, when, saved, erased, same_key, saved_at, commits, looks}
 use Rattle.naming.proofs.Names.{names_are_distinct}
-use Rattle.history.proofs.Clouds.{keeps_self, Keeps, KeepsOne, AnyName, OtherThan, NotBelow}
-use Rattle.history.proofs.Sets.{with_cloud_is, none_listed}
+use Rattle.history.proofs.Clouds.{keeps_self, Keeps, AnyName, OtherThan, NotBelow}
 use Rattle.history.proofs.Effects.{Effect, quiet, asked, began_one, stored_one, committed_one, passed, deleted_one, looked, looked_on, completed, ended, began_sweeping, swept_one, fetch, save_name}
-use Rattle.history.specs.Promises.{IsSome, SomeIn, NoneIn, Run, start, then, Different, AtMostUnsound, CanBeFetched}
-use Rattle.history.proofs.Sets.{chosen_is, listed_differ, listed_count}
-use Rattle.history.proofs.Kept.{eqb_self, entry_set, own, set_slots, kept}
+use Rattle.history.specs.Promises.{IsSome, SomeIn, NoneIn, Run, start, then}
+use Rattle.history.proofs.Kept.{entry_set, own, set_slots}
 use Rattle.history.proofs.Always.{goes_on}
 use Rattle.history.proofs.Stepped.{effect_of}
-use Rattle.history.proofs.Invariant.{Fits, EntryOk, View, view, NotBy, same_view, Holds, ListedOk, SavingOk, FetchingOk, SweepingOk, SlotOk, Inv, Rises, KeepsName, slot_on}
+use Rattle.history.proofs.Invariant.{view, NotBy, Holds, SavingOk, SweepingOk, Inv}
 
 -- ---- a save that stands
 

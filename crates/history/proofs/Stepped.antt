@@ -1,5 +1,5 @@
 -- Every step has such an effect.
-use Rattle.std.proofs.Common.{◌≡◌, ℕ, ◌<◌, ◌≤◌, Bool, true, false, cond, not, ◌&&◌, eqb, ltb, leb, List, [], ◌∷◌, ◌++◌, length, get_or, take, drop, Some, None, Ok, Err, Option, Result, sym, refl, ap, ◌∙◌, subst, ⊎_elim, arith, get_or-set_other}
+use Rattle.std.proofs.Common.{◌≡◌, ℕ, ◌<◌, Bool, true, false, cond, not, eqb, leb, List, ◌++◌, length, get_or, take, drop, Some, None, Ok, Err, Option, Result, sym, refl, ap, ◌∙◌, subst, ⊎_elim, arith, get_or-set_other}
 use Rattle.std.specs.Str.{bytes_eq}
 use Rattle.std.proofs.lemmas.Bool.{cases_Bool, not-false, leb-false, and_parts, eqb-true}
 use Rattle.std.proofs.lemmas.List.{take_at}
@@ -8,31 +8,30 @@ use Rattle.refusal.specs.declared.Cause.TheVariants.{Silent}
 use Rattle.refusal.specs.declared.Refusal.{Refusal}
 use Rattle.refusal.specs.declared.Refusal.TheVariants.{NoEntry, ValueMismatch}
 use Rattle.refusal.specs.Numbers.{refusal_number}
-use Rattle.bytemap.specs.Map.{find, insert}
+use Rattle.bytemap.specs.Map.{find}
 use Rattle.bytemap.proofs.Find.{same_is}
-use Rattle.naming.specs.Stamps.{StampValue, stamp_below, next_stamp}
+use Rattle.naming.specs.Stamps.{StampValue}
 use Rattle.naming.specs.Names.{name_of}
-use Rattle.naming.proofs.Stamps.{below_next_stamp}
 use Rattle.entry.specs.Entries.{EntryValue, LiveValue}
 use Rattle.cloud.specs.Meaning.{CloudMeaning}
-use Rattle.cloud.specs.Outcomes.{Done, Length, PutOutcome, GetOutcome, put_after, put_answer, when_put}
+use Rattle.cloud.specs.Outcomes.{Done, Length, PutOutcome, put_after, when_put}
 use Rattle.row.specs.Rows.{no_cloud, Called}
 use Rattle.directory.specs.declared.interface.CommitAnswer.{CommitAnswer}
-use Rattle.directory.specs.declared.interface.CommitAnswer.TheVariants.{Committed as Set, Older, Full}
-use Rattle.directory.specs.Meaning.{DirectoryMeaning, address}
-use Rattle.directory.specs.Calls.{entry_of, stamp_of, commit_answer, commit_after, when_committed, place_answer}
+use Rattle.directory.specs.declared.interface.CommitAnswer.TheVariants.{Committed as Set}
+use Rattle.directory.specs.Meaning.{DirectoryMeaning}
+use Rattle.directory.specs.Calls.{entry_of, stamp_of, commit_answer, commit_after}
 use Rattle.protocol.specs.declared.answers.CommitOutcome.{CommitOutcome}
 use Rattle.protocol.specs.declared.answers.CommitOutcome.TheVariants.{Committed, Passed}
 use Rattle.protocol.specs.Clouds.{count}
-use Rattle.protocol.specs.Slots.{SlotValue, SavingValue, FetchingValue, SweepingValue, idle, saving, fetching, sweeping, is_saving, is_fetching, of_fetching}
+use Rattle.protocol.specs.Slots.{SlotValue, SavingValue, FetchingValue, idle, saving, fetching, sweeping, is_saving, is_fetching, of_fetching}
 use Rattle.protocol.specs.State.{Setting, State, valid_party, slot_of, with_slot, with_clouds, with_directory}
-use Rattle.protocol.specs.Calls.{Call, begin_save, store, commit, delete, begin_fetch, try_cloud, look_again, begin_sweep, sweep, leave, list}
-use Rattle.protocol.specs.Grounds.{Ground, first_ground, first_of, caller_grounds, slot_grounds, directory_grounds, buffer_grounds, live_of, is_there, has_no_live, saved_entry, is_begun_value}
+use Rattle.protocol.specs.Calls.{Call, begin_save, store, commit, delete, begin_fetch, try_cloud, look_again, begin_sweep, sweep, leave}
+use Rattle.protocol.specs.Grounds.{Ground, first_ground, first_of, caller_grounds, slot_grounds, directory_grounds, buffer_grounds, live_of, has_no_live, saved_entry, is_begun_value}
 use Rattle.protocol.specs.Events.{Event, FoundValue, began_save, stored, committed, deleted, began_fetch, tried, looked_again, began_sweep, swept, left, listed}
-use Rattle.protocol.specs.Steps.{Step, Does, Asks, Stores, Tries, Sweeps, or_refused, or_kept, or_unwritten, saving_of, fetching_of, sweeping_of, begun, acknowledged, new_stamp, deleted_entry, after_commit, after_delete, after_look, commit_outcome, found_entry, fetch_of, store_answer, after_store, try_answer, part_after, after_try, is_saved_value}
-use Rattle.history.specs.Deeds.{Deed, deed, nothing, began, stores, commits_save, deletes, looks_first, looks_on, completes, ends}
-use Rattle.history.proofs.Clouds.{Keeps, KeepsOne, AnyName, OtherThan, NotBelow, called_keeps, put_keeps, put_holds, get_keeps, swept_keeps}
-use Rattle.history.proofs.Grounds.{NoneHolds, none_holds, then_first, first_of_both, NoneNumbered, other_number, accepted, rejected, idle_is, saving_is, fetching_is, sweeping_is, of_saving_is, of_fetching_is}
+use Rattle.protocol.specs.Steps.{Step, Does, Asks, Stores, Tries, Sweeps, or_refused, or_kept, saving_of, fetching_of, sweeping_of, begun, new_stamp, deleted_entry, after_commit, after_delete, after_look, commit_outcome, found_entry, fetch_of, store_answer, after_store, try_answer, part_after, after_try, is_saved_value}
+use Rattle.history.specs.Deeds.{Deed, deed, nothing}
+use Rattle.history.proofs.Clouds.{Keeps, KeepsOne, AnyName, OtherThan, called_keeps, put_keeps, put_holds, get_keeps, swept_keeps}
+use Rattle.history.proofs.Grounds.{NoneHolds, none_holds, then_first, first_of_both, other_number, accepted, rejected, idle_is, saving_is, fetching_is, sweeping_is, of_saving_is, of_fetching_is}
 use Rattle.history.proofs.Effects.{Effect, quiet, asked, began_one, stored_one, committed_one, passed, deleted_one, looked, looked_on, completed, ended, began_sweeping, swept_one, fetch, save_name, is_some_of, is_none_of, live_entry, set_is_below, set_entries, passed_same, outcome_set, next_is_set}
 
 abbrev all_grounds : List Ground

@@ -1,6 +1,6 @@
 -- The value of a save is one that the history names.
-use Rattle.std.proofs.Common.{◌≡◌, ℕ, Bool, true, false, cond, eqb, List, [], ◌∷◌, ◌++◌, Some, None, Option, sym, refl, ap, ◌∙◌, subst, arith}
-use Rattle.history.specs.Deeds.{Deed, History, Kind, nothing, began, stores, commits_save, deletes, looks_first, looks_on, completes, ends, latest, or_else, when, begins, Change, saved, erased, same_key, saved_at, commits, looks, value_of}
+use Rattle.std.proofs.Common.{◌≡◌, ℕ, Bool, true, false, eqb, List, [], ◌∷◌, ◌++◌, Some, None, Option, sym, refl, ap, ◌∙◌, subst, arith}
+use Rattle.history.specs.Deeds.{Deed, History, Kind, nothing, began, stores, commits_save, deletes, looks_first, looks_on, completes, ends, latest, when, begins, saved, erased, same_key, saved_at, commits, looks, value_of}
 use Rattle.history.specs.Promises.{Named, here, before}
 
 -- where the latest deed of a kind stands

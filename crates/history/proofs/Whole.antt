@@ -1,5 +1,5 @@
 -- A Locker that was opened over an empty directory keeps its promises.
-use Rattle.std.proofs.Common.{◌≡◌, ℕ, List, [], Ok, refl}
+use Rattle.std.proofs.Common.{Ok, refl}
 use Rattle.protocol.specs.declared.answers.CommitOutcome.TheVariants.{Committed}
 use Rattle.protocol.specs.Events.{committed}
 use Rattle.history.specs.Promises.{AnOpenedLockerKeepsItsPromises}

@@ -1,14 +1,13 @@
 -- How long a record is, and what it begins with.
-use Rattle.std.proofs.Common.{◌≡◌, ℕ, ◌+◌, ◌-◌, ◌<◌, ◌≤◌, Bool, true, false, cond, eqb, List, [], ◌∷◌, ◌++◌, length, get_or, take, drop, IfSome, Some, None, Option, sym, refl, ap, ◌∙◌, inl, inr, arith, length-append}
-use Rattle.std.specs.Option.{option_map}
-use Rattle.std.proofs.lemmas.Bool.{and_parts, leb-true, eqb-true, or_cases}
+use Rattle.std.proofs.Common.{◌≡◌, ℕ, ◌+◌, ◌-◌, ◌<◌, ◌≤◌, Bool, true, false, cond, eqb, List, [], ◌∷◌, ◌++◌, length, IfSome, Some, None, Option, refl, ap, ◌∙◌, inl, inr, arith, length-append}
+use Rattle.std.proofs.lemmas.Bool.{and_parts, eqb-true, or_cases}
 use Rattle.digest.specs.Value.{is_digest}
 use Rattle.naming.proofs.Keys.{valid_key_high}
 use Rattle.entry.specs.Bytes.{all_bytes, digest_fits}
 use Rattle.entry.specs.Entries.{LiveValue, valid_live}
 use Rattle.journal_record.specs.Records.{RecordValue, ValidRecord}
-use Rattle.journal_record.specs.Layout.{stamp_field, container_field, size_field, two_bytes, live_fields, live_bits, map_of, head_of, encode, longest_record}
-use Rattle.journal_record.specs.Parse.{take_fields, in_limits, then, guard, parse}
+use Rattle.journal_record.specs.Layout.{stamp_field, container_field, size_field, two_bytes, live_fields, map_of, head_of, encode, longest_record}
+use Rattle.journal_record.specs.Parse.{parse}
 use Rattle.journal_record.proofs.OnlyRecords.{only_records_are_read}
 
 pub length_container : (x : ℕ) → length (container_field x) ≤ 1

@@ -1,5 +1,5 @@
 -- Whatever is read is exactly the bytes that writing it gives.
-use Rattle.std.proofs.Common.{◌≡◌, ℕ, ◌+◌, ◌*◌, ◌/◌, ◌%◌, ◌<◌, ◌≤◌, Bool, true, false, cond, not, ◌&&◌, eqb, leb, List, [], ◌∷◌, ◌++◌, length, take, drop, IfSome, Some, None, Option, sym, refl, ap, ◌∙◌, subst, append_assoc, arith, length-append}
+use Rattle.std.proofs.Common.{◌≡◌, ℕ, ◌+◌, ◌*◌, ◌/◌, ◌%◌, ◌≤◌, Bool, true, false, cond, not, ◌&&◌, eqb, leb, List, [], ◌∷◌, ◌++◌, length, take, drop, IfSome, Some, None, Option, sym, refl, ap, ◌∙◌, subst, append_assoc, arith}
 use Rattle.std.proofs.lemmas.List.{take-append-drop, length-take-le}
 use Rattle.std.proofs.lemmas.Bool.{and_parts, leb-true, eqb-true, ne_eqb, eq-eqb}
 use Rattle.std.proofs.lemmas.Bool.Decides.{nat_tests}
@@ -8,7 +8,7 @@ use Rattle.naming.specs.Text.{valid_key}
 use Rattle.entry.specs.Entries.{LiveValue, valid_live, stamp_taken}
 use Rattle.journal_record.specs.Records.{RecordValue, ValidRecord}
 use Rattle.journal_record.specs.Layout.{four_bytes, two_bytes, stamp_field, container_field, size_field, live_fields, live_bits, map_of, head_of, encode}
-use Rattle.journal_record.specs.Parse.{Read, then, guard, take_byte, take_two, take_four, take_part, take_stamp, take_container, take_size, take_digest, take_live, take_state, take_fields, bit, same, marked, says_deleted, says_live, live_in_limits, in_limits, parse}
+use Rattle.journal_record.specs.Parse.{Read, then, guard, take_byte, take_two, take_four, take_part, take_stamp, take_container, take_size, take_digest, take_live, take_state, take_fields, bit, same, says_deleted, says_live, live_in_limits, in_limits, parse}
 use Rattle.journal_record.specs.Laws.{OnlyRecordsAreRead}
 
 -- ---- steps of reading, turned round

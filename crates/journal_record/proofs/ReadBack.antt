@@ -1,15 +1,15 @@
 -- Every record that is written reads back as itself, whatever follows it.
-use Rattle.std.proofs.Common.{◌≡◌, ℕ, ◌+◌, ◌*◌, ◌/◌, ◌%◌, ◌<◌, ◌≤◌, Bool, true, false, cond, not, ◌&&◌, eqb, leb, ◌⊎◌, List, [], ◌∷◌, ◌++◌, length, take, drop, IfSome, Some, None, Option, sym, refl, ap, ◌∙◌, subst, inl, inr, ⊎_elim, append_assoc, mod-eq_of_lt, arith, length-append}
+use Rattle.std.proofs.Common.{◌≡◌, ℕ, ◌+◌, ◌*◌, ◌/◌, ◌%◌, ◌≤◌, Bool, true, false, cond, not, ◌&&◌, eqb, leb, List, ◌∷◌, ◌++◌, length, IfSome, Some, None, Option, refl, ◌∙◌, ⊎_elim, append_assoc, mod-eq_of_lt, arith, length-append}
 use Rattle.std.proofs.lemmas.Nat.{shr-shr, div-add-mod'}
 use Rattle.std.proofs.lemmas.List.{take_at, drop_at}
-use Rattle.std.proofs.lemmas.Bool.{and_from, and_parts, le-leb, leb-true, eq-eqb, eqb-true, ne_eqb, or_cases}
+use Rattle.std.proofs.lemmas.Bool.{and_from, and_parts, le-leb, leb-true, eqb-true, ne_eqb, or_cases}
 use Rattle.std.proofs.lemmas.Bool.Decides.{nat_tests}
 use Rattle.digest.specs.Value.{is_digest}
 use Rattle.entry.specs.Bytes.{all_bytes, digest_fits}
 use Rattle.entry.specs.Entries.{LiveValue, valid_live}
 use Rattle.journal_record.specs.Records.{RecordValue, ValidRecord}
-use Rattle.journal_record.specs.Layout.{four_bytes, two_bytes, stamp_field, container_field, size_field, live_fields, container_bit, live_bits, map_of, head_of, encode}
-use Rattle.journal_record.specs.Parse.{Read, then, guard, take_byte, take_part, take_stamp, take_container, take_size, take_digest, take_state, take_fields, bit, marked, live_in_limits, in_limits, parse}
+use Rattle.journal_record.specs.Layout.{stamp_field, container_field, size_field, live_fields, live_bits, head_of, encode}
+use Rattle.journal_record.specs.Parse.{Read, then, take_byte, take_part, take_container, take_size, take_digest, take_state, bit, marked, live_in_limits, in_limits, parse}
 use Rattle.journal_record.specs.Laws.{RecordsReadBack}
 
 -- ---- numbers

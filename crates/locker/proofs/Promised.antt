@@ -1,5 +1,5 @@
 -- A Locker just opened over an empty directory keeps the promises.
-use Rattle.std.proofs.Common.{◌≡◌, List, [], length, replicate}
+use Rattle.std.proofs.Common.{◌≡◌, [], length, replicate}
 use Rattle.protocol.specs.Slots.{idle}
 use Rattle.protocol.specs.State.{Setting, State}
 use Rattle.history.specs.Promises.{Promises}

@@ -7,12 +7,12 @@ use slots::limits::Limits;
 use slots::sixteen::Slots;
 use std::marker::PhantomData;
 
+mod cloud_sweeping;
 mod deleting;
 mod fetching;
-mod listing;
+mod key_listing;
 mod opening;
 mod saving;
-mod sweeping;
 
 /// A directory, a row of clouds, and what each of sixteen parties has under way.
 #[derive(Drop)]

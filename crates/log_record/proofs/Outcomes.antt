@@ -1,9 +1,8 @@
 -- When a record is written, and what is left then.
-use Rattle.std.proofs.Common.{◌≡◌, ℕ, ◌+◌, ◌/◌, ◌%◌, ◌<◌, ◌≤◌, Bool, true, false, cond, ◌&&◌, leb, ◌⊎◌, List, [], ◌∷◌, ◌++◌, length, Some, None, Option, sym, refl, ap, ◌∙◌, inl, inr, append_assoc, arith}
+use Rattle.std.proofs.Common.{◌≡◌, ℕ, ◌+◌, ◌/◌, ◌%◌, ◌<◌, ◌≤◌, true, false, leb, ◌⊎◌, List, [], ◌∷◌, ◌++◌, length, Some, None, Option, sym, refl, ap, ◌∙◌, inl, inr, append_assoc}
 use Rattle.std.proofs.lemmas.Bool.{and_from, and_left, and_right, le-leb, lt-leb}
 use Rattle.log_record.specs.Records.{Record, stored, dropped, valid, encoded}
 use Rattle.log_record.specs.Written.{overwritten, writable, Written}
-use Rattle.log_record.proofs.ReadBack.{length_stored, length_dropped}
 
 module _ (bytes : List ℕ) (at : ℕ) (r : Record) where
   not_writable : writable bytes at r ≡ false → Written bytes at r None bytes

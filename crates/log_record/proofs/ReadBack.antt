@@ -1,9 +1,8 @@
 -- Records are read back as they were written.
-use Rattle.std.proofs.Common.{◌≡◌, ℕ, zero, suc, ◌+◌, ◌*◌, ◌/◌, ◌%◌, ◌<◌, ◌≤◌, Bool, true, false, cond, ◌&&◌, eqb, leb, List, [], ◌∷◌, ◌++◌, length, get_or, take, drop, sym, refl, ap, ◌∙◌, subst, append_assoc, append-nil, arith, length-append}
-use Rattle.std.specs.List.{flat_map}
+use Rattle.std.proofs.Common.{◌≡◌, ℕ, zero, suc, ◌+◌, ◌*◌, ◌/◌, ◌%◌, ◌≤◌, true, false, eqb, leb, List, [], ◌∷◌, ◌++◌, length, drop, sym, refl, ap, ◌∙◌, subst, append_assoc, arith, length-append}
 use Rattle.std.proofs.lemmas.List.{take_at, drop_at, drop-drop, flat_map_more}
-use Rattle.std.proofs.lemmas.Bool.{and_parts, and_from, leb-true, le-leb, ne_eqb}
-use Rattle.log_record.specs.Records.{Record, stored, dropped, valid, encoded, all_encoded, all_valid, size_in, record_of, past_record, first_records, records_in, Whole, RecordsReadBack}
+use Rattle.std.proofs.lemmas.Bool.{and_parts, and_from, leb-true, ne_eqb}
+use Rattle.log_record.specs.Records.{Record, stored, dropped, valid, encoded, all_encoded, all_valid, first_records, records_in, Whole, RecordsReadBack}
 
 -- how long a record is
 pub length_stored : (name value : List ℕ) → length (encoded (stored name value)) ≡ length name + length value + 3

@@ -1,11 +1,10 @@
 -- What a log holds after one record more, and what a log of stored records alone holds.
-use Rattle.std.proofs.Common.{◌≡◌, ℕ, Bool, true, false, cond, List, [], ◌∷◌, ◌++◌, map, Some, None, Option, sym, refl, ap, ◌∙◌, subst, ⊎_elim, append_assoc, append-nil, arith}
-use Rattle.std.proofs.lemmas.Bool.{cases_Bool}
+use Rattle.std.proofs.Common.{◌≡◌, ℕ, true, false, List, [], ◌∷◌, ◌++◌, map, None, sym, refl, ap, ◌∙◌, subst, append_assoc, append-nil}
 use Rattle.std.specs.Str.{bytes_eq}
-use Rattle.bytemap.specs.Map.{Map, find, insert, gathered, Distinct, Ascending}
-use Rattle.bytemap.proofs.Find.{same_sym, ascending_insert, ascending_remove}
-use Rattle.bytemap.proofs.Pairs.{absent_apart, find_push, distinct_push, gathered_insert}
-use Rattle.log_record.specs.Records.{Record, stored, dropped, valid, encoded, all_encoded, all_valid, first_records, records_in, Whole}
+use Rattle.bytemap.specs.Map.{Map, find, insert, gathered, Distinct}
+use Rattle.bytemap.proofs.Find.{same_sym}
+use Rattle.bytemap.proofs.Pairs.{absent_apart, find_push, gathered_insert}
+use Rattle.log_record.specs.Records.{Record, valid, encoded, all_encoded, all_valid, first_records, records_in, Whole}
 use Rattle.log_record.specs.Replay.{done, all_done, replayed, stored_pair}
 use Rattle.log_record.proofs.ReadBack.{records_push, records_read_back}
 

@@ -1,10 +1,10 @@
 -- Laws of names.
-use Rattle.std.proofs.Common.{◌≡◌, ℕ, ◌+◌, ◌-◌, ◌*◌, ◌/◌, ◌%◌, ◌^◌, ◌<◌, ◌≤◌, Bool, true, false, cond, eqb, ltb, List, [], ◌∷◌, ◌++◌, length, get_or, take, drop, replicate, Some, None, Option, sym, refl, ap, ◌∙◌, arith, length-take, MatchOption}
-use Rattle.std.proofs.lemmas.List.{append_cancel_right, length-append, take-append-drop, take_at, drop_at, get_or-append_right}
+use Rattle.std.proofs.Common.{◌≡◌, ℕ, ◌+◌, ◌-◌, ◌*◌, ◌/◌, ◌%◌, ◌^◌, ◌<◌, ◌≤◌, Bool, true, false, cond, eqb, ltb, List, [], ◌∷◌, ◌++◌, length, get_or, take, drop, Some, None, Option, sym, refl, ap, ◌∙◌, arith, MatchOption}
+use Rattle.std.proofs.lemmas.List.{append_cancel_right, length-append, take_at, drop_at, get_or-append_right}
 use Rattle.std.proofs.lemmas.Bool.{both_ways, le-leb}
 use Rattle.std.proofs.lemmas.Bool.Decides.{nat_tests}
 use denote.Struct.Record.{values_one}
-use Rattle.byte_strings.specs.Order.{at_most, below}
+use Rattle.byte_strings.specs.Order.{below}
 use Rattle.byte_strings.proofs.Order.{below_prefix, below_heads, below_empty}
 use Rattle.naming.specs.contracts.name.Name.{struct, the_propositions}
 use Rattle.naming.specs.declared.name.Name.{Name}

@@ -1,5 +1,5 @@
 -- Stamps: which of two writes is the later one.
-use Rattle.std.specs.Prelude.{◌≡◌, ℕ, ◌+◌, ◌≤◌, Bool, cond, ◌&&◌, ◌==◌, nat_le, nat_lt}
+use Rattle.std.specs.Prelude.{ℕ, ◌+◌, ◌≤◌, Bool, cond, ◌&&◌, ◌==◌, nat_le, nat_lt}
 use Rattle.byte_strings.specs.Order.{StrictTotalOrder}
 use Rattle.naming.specs.Limits.{greatest_sequence, greatest_writer}
 use Rattle.naming.specs.declared.stamp.Stamp.{Stamp}

@@ -1,5 +1,5 @@
 -- Sets of clouds as an entry has them: one bit for each cloud, cloud 0 lowest.
-use Rattle.std.specs.Prelude.{ℕ, ◌^◌, Bool, cond, List, [], ◌∷◌, length, bit_or}
+use Rattle.std.specs.Prelude.{ℕ, ◌^◌, cond, List, [], ◌∷◌, length, bit_or}
 use Rattle.entry.specs.Entries.{lists}
 
 -- the set with one cloud more

@@ -12,7 +12,7 @@ use Rattle.directory.specs.declared.interface.CommitAnswer.TheVariants.{Committe
 use Rattle.directory.specs.Calls.{entry_of, stamp_of, commit_answer}
 use Rattle.cloud.specs.Meaning.{longest_value}
 use Rattle.protocol.specs.Clouds.{count}
-use Rattle.protocol.specs.Slots.{SlotValue, SavingValue, FetchingValue, is_idle, is_saving, is_fetching, is_sweeping, of_saving, of_fetching}
+use Rattle.protocol.specs.Slots.{SavingValue, FetchingValue, is_idle, is_saving, is_fetching, is_sweeping, of_saving, of_fetching}
 use Rattle.protocol.specs.State.{Setting, State, valid_party, slot_of}
 use Rattle.protocol.specs.Listing.{keys_of, listing}
 use Rattle.protocol.specs.Calls.{Call, begin_save, store, commit, delete, begin_fetch, try_cloud, look_again, begin_sweep, sweep, leave, list, has, party_of, key_of, value_of, cloud_of}

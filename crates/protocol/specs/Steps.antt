@@ -22,7 +22,7 @@ use Rattle.protocol.specs.Clouds.{with_cloud, count}
 use Rattle.protocol.specs.Slots.{SlotValue, SavingValue, FetchingValue, SweepingValue, idle, saving, fetching, sweeping}
 use Rattle.protocol.specs.State.{Setting, State, slot_of, with_slot, with_clouds, with_directory}
 use Rattle.protocol.specs.Listing.{keys_of, listing}
-use Rattle.protocol.specs.Calls.{Call, begin_save, store, commit, delete, begin_fetch, try_cloud, look_again, begin_sweep, sweep, leave, list}
+use Rattle.protocol.specs.Calls.{begin_save, store, commit, delete, begin_fetch, try_cloud, look_again, begin_sweep, sweep, leave, list}
 use Rattle.protocol.specs.Grounds.{first_ground, first_of, caller_grounds, slot_grounds, live_of, saved_entry}
 use Rattle.protocol.specs.Sweeping.{Swept}
 use Rattle.protocol.specs.Events.{Event, FoundValue, began_save, stored, committed, deleted, began_fetch, tried, looked_again, began_sweep, swept, left, listed}

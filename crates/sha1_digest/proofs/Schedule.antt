@@ -1,5 +1,5 @@
 -- The mix of the message schedule.
-use Rattle.std.proofs.Common.{◌≡◌, ap, ◌∙◌, lit<, lit≤}
+use Rattle.std.proofs.Common.{lit<, lit≤}
 use Rattle.digest.proofs.Window.{ReadsSixteen}
 use Rattle.sha1_digest.specs.Sha1.{mixed}
 

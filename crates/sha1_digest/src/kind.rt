@@ -1,7 +1,7 @@
 //! SHA-1 as a digest function.
 ghost use Rattle.std.specs.Prelude.{◌≡◌};
 ghost use Rattle.sha1_digest.specs.Constants.{initial as first};
-ghost use Rattle.sha1_digest.specs.Sha1.{compressed as compressed-block, sha1};
+ghost use Rattle.sha1_digest.specs.Sha1.{compressed as compressed_block, sha1};
 ghost use Rattle.std.proofs.Common.{rules};
 ghost use Rattle.sha1_digest.specs.Digests.{length_sha1, sha1_small};
 
@@ -24,7 +24,7 @@ impl Compression for Sha1 {
 
     ghost initial = { first };
 
-    ghost compressed = { compressed-block };
+    ghost compressed = { compressed_block };
 
     ghost small = { Prim.search rules };
 

@@ -4,6 +4,7 @@
 ghost use Rattle.std.specs.Prelude.{◌≡◌};
 ghost use Rattle.sha1_digest.specs.Sha1.{sha1 as digested, DigestOfAbc};
 
+use crate::kind::Sha1;
 use digest::kind::DigestKind;
 
 mod constants;
@@ -16,7 +17,7 @@ pub fn sha1(value: &[u8]) -> [u8; 20]
     ensures example { DigestOfAbc }
 {
     let mut out = [0; 32];
-    <crate::kind::Sha1 as DigestKind>::digest(value, &mut out);
+    Sha1::digest(value, &mut out);
     let mut short = [0; 20];
     short.copy_from_slice(&out[0..20]);
     short

@@ -1,5 +1,4 @@
 -- The mix of the message schedule.
-use mathlib.Core.Path.{◌≡◌, ap, ◌∙◌}
 use lib.Dec.{lit<, lit≤}
 use Rattle.digest.proofs.Window.{ReadsSixteen}
 use Rattle.sha256.specs.Sha256.{mixed}

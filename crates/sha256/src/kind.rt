@@ -1,7 +1,7 @@
 //! SHA-256 as a digest function.
 ghost use Rattle.std.specs.Prelude.{◌≡◌};
 ghost use Rattle.sha256.specs.Constants.{initial as first};
-ghost use Rattle.sha256.specs.Sha256.{compressed as compressed-block, sha256};
+ghost use Rattle.sha256.specs.Sha256.{compressed as compressed_block, sha256};
 ghost use Rattle.std.proofs.Common.{rules};
 ghost use Rattle.sha256.specs.Digests.{length_sha256, sha256_small};
 
@@ -24,7 +24,7 @@ impl Compression for Sha256 {
 
     ghost initial = { first };
 
-    ghost compressed = { compressed-block };
+    ghost compressed = { compressed_block };
 
     ghost small = { Prim.search rules };
 

@@ -4,6 +4,7 @@
 ghost use Rattle.std.specs.Prelude.{◌≡◌};
 ghost use Rattle.sha256.specs.Sha256.{sha256 as digested, DigestOfAbc};
 
+use crate::kind::Sha256;
 use digest::kind::DigestKind;
 
 mod constants;
@@ -16,6 +17,6 @@ pub fn sha256(value: &[u8]) -> [u8; 32]
     ensures example { DigestOfAbc }
 {
     let mut out = [0; 32];
-    <crate::kind::Sha256 as DigestKind>::digest(value, &mut out);
+    Sha256::digest(value, &mut out);
     out
 }

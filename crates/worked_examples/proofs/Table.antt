@@ -1,5 +1,5 @@
 -- The definitions compute each example.
-use Rattle.std.proofs.Common.{◌≡◌, ℕ, Bool, true, false, cond, List, [], ◌∷◌, Some, None, Option, sym, refl, ap, ◌∙◌}
+use Rattle.std.proofs.Common.{◌≡◌, ℕ, Bool, false, cond, List, Some, Option, refl, ap, ◌∙◌}
 use Rattle.byte_strings.specs.Order.{at_most}
 use Rattle.bytemap.specs.Map.{find, insert}
 use Rattle.naming.specs.Text.{valid_key, printable}
@@ -7,7 +7,6 @@ use Rattle.naming.specs.Stamps.{StampValue, stamp_below}
 use Rattle.naming.specs.Names.{name_front, stamp_bytes}
 use Rattle.naming.proofs.Stamps.{stamp_below_irreflexive}
 use Rattle.entry.specs.Entries.{EntryValue}
-use Rattle.directory.specs.declared.interface.CommitAnswer.{CommitAnswer}
 use Rattle.directory.specs.declared.interface.CommitAnswer.TheVariants.{Older}
 use Rattle.directory.specs.Meaning.{DirectoryMeaning, contents}
 use Rattle.directory.specs.Calls.{entry_of, stamp_of, commit_answer, commit_after, place_answer}

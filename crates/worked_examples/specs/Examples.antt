@@ -4,7 +4,7 @@ use Rattle.refusal.specs.declared.Refusal.TheVariants.{UnsupportedRow, CorruptJo
 use Rattle.refusal.specs.Numbers.{refusal_number, refusal_offset}
 use Rattle.naming.specs.Stamps.{StampValue, stamp_below}
 use Rattle.naming.specs.Names.{name_of}
-use Rattle.entry.specs.Entries.{EntryValue, LiveValue}
+use Rattle.entry.specs.Entries.{EntryValue}
 use Rattle.directory.specs.declared.interface.CommitAnswer.TheVariants.{Older}
 use Rattle.directory.specs.Meaning.{DirectoryMeaning}
 use Rattle.directory.specs.Calls.{entry_of, commit_answer, commit_after}

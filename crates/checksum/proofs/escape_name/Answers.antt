@@ -1,7 +1,7 @@
 use Rattle.std.proofs.Common.{◌++◌, get_or, ap, ◌∙◌, rules}
 use Rattle.std.proofs.lemmas.List.{take_all}
 use Rattle.hexadecimal.proofs.Digits.{joined_next}
-use Rattle.checksum.specs.Line.{escape, escaped}
+use Rattle.checksum.specs.Line.{escape}
 use Rattle.checksum.proofs.escape_name.Goals as goal
 
 pub loop-b-preserved : goal.loop-b-preserved

@@ -6,7 +6,7 @@ ghost use Rattle.naming_next.specs.ContainerKeysLemmas.{container_key_preorder};
 
 use crate::keyed_entry::KeyedEntry;
 use byte_strings::successor::{Bound, Ordered};
-use naming_next::container_key::KeyBound;
+use naming_next::container_key::{ContainerKey, KeyBound};
 
 impl Ordered for KeyedEntry {
     ghost le = { λ x y. container_key_le x.at y.at };
@@ -14,7 +14,7 @@ impl Ordered for KeyedEntry {
     ghost ordered = { preorder_by (λ x. x.at) container_key_le container_key_preorder };
 
     fn is_at_most(&self, other: &KeyedEntry) -> bool {
-        <naming_next::container_key::ContainerKey as Ordered>::is_at_most(&self.at, &other.at)
+        self.at.is_at_most(&other.at)
     }
 }
 
@@ -22,6 +22,6 @@ impl<'a> Bound<KeyedEntry> for KeyBound<'a> {
     ghost above = { λ q x. container_key_above q x.at };
 
     fn is_below(&self, item: &KeyedEntry) -> bool {
-        <KeyBound<'_> as Bound<naming_next::container_key::ContainerKey>>::is_below(self, &item.at)
+        <KeyBound<'_> as Bound<ContainerKey>>::is_below(self, &item.at)
     }
 }

@@ -1,4 +1,3 @@
-use Rattle.std.proofs.Common.{rules}
 use Rattle.history.proofs.an_opened_locker_keeps_its_promises.Goals as goal
 use Rattle.history.proofs.Whole.{an_opened_Locker_keeps_its_promises}
 

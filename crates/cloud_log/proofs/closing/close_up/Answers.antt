@@ -2,7 +2,7 @@ use Rattle.std.proofs.Common.{◌≡◌, ◌+◌, get_or, take, drop, set, sym, 
 use Rattle.std.proofs.lemmas.List.{get_or_default}
 use Rattle.log_record.specs.Written.{overwritten}
 use Rattle.cloud_log.specs.Index.{bytes_of}
-use Rattle.cloud_log.proofs.ClosingUp.{Closing, Turn, turn, closing_none, closing_more, closing_all}
+use Rattle.cloud_log.proofs.ClosingUp.{Closing, turn, closing_none, closing_more, closing_all}
 use Rattle.cloud_log.proofs.closing.close_up.Goals as goal
 
 pub loop-i-init : goal.loop-i-init

@@ -1,4 +1,3 @@
-use Rattle.std.proofs.Common.{◌≡◌, length}
 use Rattle.cloud_log.proofs.ClosingUp.{Closing}
 use Rattle.cloud_log.proofs.closing.close_up.Given as goal
 

@@ -1,5 +1,4 @@
-use Rattle.std.proofs.Common.{◌≡◌, ◌*◌, ◌/◌, ◌%◌, ◌^◌, set, sym, ap, ◌∙◌, mul_comm}
-use lib.Bits.{bit_and}
+use Rattle.std.proofs.Common.{◌*◌, ◌%◌, ◌^◌, sym, ap, ◌∙◌, mul_comm}
 use Rattle.std.proofs.lemmas.Nat.{and_mask}
 use Rattle.digest.specs.Words.{word}
 use Rattle.digest.specs.Message.{be8}

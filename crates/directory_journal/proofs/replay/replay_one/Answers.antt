@@ -1,4 +1,4 @@
-use Rattle.std.proofs.Common.{sym, refl, ap, ◌∙◌, arith}
+use Rattle.std.proofs.Common.{refl, ap, ◌∙◌}
 use Rattle.bytemap.proofs.Find.{ascending_gathered}
 use Rattle.directory_table.specs.Entries.{pairs}
 use Rattle.directory_table.specs.Making.{table_entries, table_meaning}

@@ -1,6 +1,4 @@
-use Rattle.std.proofs.Common.{◌≡◌, sym, subst}
 use Rattle.journal_record.specs.Records.{record_value}
-use Rattle.directory_journal.specs.Records.{Appended}
 use Rattle.directory_journal.proofs.Appends.{not_appended, is_appended}
 use Rattle.directory_journal.proofs.storing.append.Goals as goal
 

@@ -1,4 +1,4 @@
-use Rattle.std.proofs.Common.{length, ap, ◌∙◌}
+use Rattle.std.proofs.Common.{ap, ◌∙◌}
 use Rattle.std.proofs.lemmas.List.{get_or_default}
 use Rattle.naming_next.specs.declared.container_key.KeyBound.{KeyBound}
 use Rattle.directory_table.proofs.Searched.{none_after_bound, found_after, past_container}

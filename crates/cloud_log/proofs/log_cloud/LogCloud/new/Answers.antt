@@ -1,4 +1,4 @@
-use Rattle.std.proofs.Common.{◌≡◌, ◌+◌, ◌*◌, ◌≤◌, true, leb, vec_items, vec_len, vec_capacity, sym, refl, subst, arith}
+use Rattle.std.proofs.Common.{◌+◌, ◌*◌, leb, vec_items, vec_len, vec_capacity, sym, refl, subst, arith}
 use Rattle.std.proofs.lemmas.Bool.{and_parts, leb-true}
 use Rattle.std.proofs.lemmas.Bool.Decides.{nat_tests}
 use Rattle.cloud_log.specs.State.{facts, sound_none, empty_meaning}

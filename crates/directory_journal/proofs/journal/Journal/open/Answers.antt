@@ -1,4 +1,4 @@
-use Rattle.std.proofs.Common.{◌≡◌, ◌+◌, ◌*◌, ◌<◌, ◌≤◌, length, Ok, Err, vec_items, vec_capacity, sym, refl, ap, ◌∙◌, subst, arith}
+use Rattle.std.proofs.Common.{◌≡◌, ◌+◌, ◌*◌, ◌<◌, ◌≤◌, length, Err, vec_items, vec_capacity, sym, refl, ap, ◌∙◌, arith}
 use Rattle.directory_table.specs.Making.{table_meaning}
 use Rattle.journal_record.specs.Layout.{longest_record}
 use Rattle.directory_journal.specs.Capacity.{capacity}

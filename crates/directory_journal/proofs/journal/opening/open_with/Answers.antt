@@ -1,8 +1,8 @@
-use Rattle.std.proofs.Common.{◌≡◌, Ok, Err, vec_items, vec_capacity, sym, refl, ap, ◌∙◌, arith}
+use Rattle.std.proofs.Common.{◌≡◌, vec_items, vec_capacity, sym, refl, ap, ◌∙◌, arith}
 use Rattle.directory_table.specs.Making.{table_meaning}
 use Rattle.directory_journal.specs.Capacity.{capacity}
 use Rattle.directory_journal.specs.Opening.{meaning_in}
-use Rattle.directory_journal.specs.Replay.{replay, replay_from}
+use Rattle.directory_journal.specs.Replay.{replay_from}
 use Rattle.directory_journal.proofs.Capacity.{table_capacity}
 use Rattle.directory_journal.proofs.Openings.{from_empty}
 use Rattle.directory_journal.proofs.Same.{saying}

@@ -1,7 +1,6 @@
-use Rattle.std.proofs.Common.{◌≡◌, ◌+◌, ◌≤◌, length, take, sym, ap, ◌∙◌, arith, rules}
+use Rattle.std.proofs.Common.{◌≡◌, length, take, arith, rules}
 use Rattle.std.proofs.lemmas.List.{length-take-le}
 use Rattle.std.proofs.lemmas.Slice.{overwrites}
-use Rattle.journal_record.specs.Layout.{longest_record}
 use Rattle.journal_record.proofs.buffer.Buffer.append.Goals as goal
 
 pub invariant_of-self : goal.invariant_of-self

@@ -1,5 +1,4 @@
-use Rattle.std.proofs.Common.{◌≡◌, ◌-◌, ◌≤◌, length, Some, sym, ap, ◌∙◌, arith, rules}
-use Rattle.std.specs.Option.{option_map}
+use Rattle.std.proofs.Common.{◌≡◌, ◌≤◌, length, Some, sym, arith, rules}
 use Rattle.journal_record.specs.Parse.{fields_of, parse}
 use Rattle.journal_record.proofs.Reading.{parse_short, no_fields, past_limits, within_limits}
 use Rattle.journal_record.proofs.Lengths.{rest_shorter}

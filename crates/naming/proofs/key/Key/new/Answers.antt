@@ -1,4 +1,4 @@
-use Rattle.std.proofs.Common.{◌≡◌, ◌≤◌, true, length, take, sym, ap, ◌∙◌, arith}
+use Rattle.std.proofs.Common.{◌≡◌, ◌≤◌, true, length, sym, ap, ◌∙◌, arith}
 use Rattle.naming.specs.Limits.{longest_key}
 use Rattle.naming.specs.Text.{printable, valid_key}
 use Rattle.naming.proofs.Keys.{valid_key_low, valid_key_high, valid_key_printable}

@@ -1,4 +1,4 @@
-use Rattle.std.proofs.Common.{sym, refl, ap, ◌∙◌, inl, inr, arith}
+use Rattle.std.proofs.Common.{sym, refl, ap, ◌∙◌, inl, inr}
 use Rattle.bytemap.specs.Map.{insert}
 use Rattle.log_record.specs.Records.{stored}
 use Rattle.log_record.proofs.ReadBack.{length_stored}

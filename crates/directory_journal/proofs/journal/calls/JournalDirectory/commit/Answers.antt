@@ -4,7 +4,6 @@ use Rattle.std.proofs.lemmas.List.{with_items_is}
 use Rattle.bytemap.proofs.Find.{ascending_gathered}
 use Rattle.naming.specs.Keys.{key_bytes}
 use Rattle.entry.specs.Entries.{entry_value}
-use Rattle.directory.specs.Meaning.{DirectoryMeaning}
 use Rattle.directory_table.specs.Entries.{pairs}
 use Rattle.directory_table.specs.Making.{table_entries, table_meaning}
 use Rattle.directory_table.specs.declared.keyed_entry.KeyedEntry.{KeyedEntry}

@@ -1,4 +1,4 @@
-use Rattle.std.proofs.Common.{◌≡◌, ◌-◌, ◌<◌, length, sym, ◌∙◌, arith}
+use Rattle.std.proofs.Common.{◌≡◌, ◌-◌, length, sym, ◌∙◌, arith}
 use Rattle.entry.specs.Entries.{entry_value}
 use Rattle.directory_table.specs.Making.{table_entries}
 use Rattle.directory_table.proofs.Outcomes.{room_for_new}

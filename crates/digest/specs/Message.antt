@@ -1,4 +1,4 @@
--- The padding of a message of bytes, its blocks of sixteen words, and the digest, which SHA1 and SHA256 share, as FIPS 180-4 defines them.
+-- The padding of a message of bytes, its blocks of sixteen words, and the digest, which SHA-1 and SHA-256 share, as FIPS 180-4 defines them.
 use Rattle.std.specs.Prelude.{◌≡◌, ℕ, ◌+◌, ◌-◌, ◌*◌, ◌/◌, ◌%◌, ◌^◌, ◌<◌, List, [], ◌∷◌, ◌++◌, map, length, take, replicate}
 use Rattle.std.specs.List.{range_with_len, flat_map}
 use Rattle.digest.specs.Words.{be4, word}

@@ -1,4 +1,4 @@
--- Rounds and the message schedule, which SHA1 and SHA256 share, as FIPS 180-4 defines them.
+-- Rounds and the message schedule, which SHA-1 and SHA-256 share, as FIPS 180-4 defines them.
 use Rattle.std.specs.Prelude.{ℕ, zero, suc, ◌-◌, ◌%◌, cond, List, [], ◌∷◌, ◌++◌, nat_lt, slice_index, slice_set}
 use Rattle.digest.specs.Words.{sums}
 

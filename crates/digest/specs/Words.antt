@@ -1,4 +1,4 @@
--- Words, numbers below 2 ^ 32, and the functions on them that SHA1 and SHA256 share, as FIPS 180-4 defines them.
+-- Words, numbers below 2 ^ 32, and the functions on them that SHA-1 and SHA-256 share, as FIPS 180-4 defines them.
 use Rattle.std.specs.Prelude.{ℕ, ◌+◌, ◌-◌, ◌*◌, ◌/◌, ◌%◌, ◌^◌, List, [], ◌∷◌, map, bit_and, bit_or, bit_xor, slice_index}
 use Rattle.std.specs.List.{range_with_len}
 

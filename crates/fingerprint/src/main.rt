@@ -4,6 +4,7 @@
 use digest::kind::DigestKind;
 use options::Options;
 use std::io::{Read, Write};
+use std::process::ExitCode;
 use std::{fs, io};
 
 mod options;
@@ -61,10 +62,10 @@ fn run(rt: &HostRuntime) -> io::Result<bool> {
     }
 }
 
-fn main(rt: HostRuntime) -> Result<(), io::Error> {
-    if run(&rt)? {
-        return Ok(());
-    }
+fn main(rt: HostRuntime) -> ExitCode {
     // What went wrong has been said: the status is all that is left.
-    Err(io::Error::from(io::ErrorKind::InvalidInput))
+    match run(&rt) {
+        Ok(true) => ExitCode::SUCCESS,
+        _ => ExitCode::FAILURE,
+    }
 }

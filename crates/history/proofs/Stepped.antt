@@ -170,7 +170,7 @@ module _ (S : Setting) (s : State) where
       at _ _ s' (e ∙ ap (λ (y : SlotValue). with_slot s p y) (fetch_is c k o stands.0 there.0 stands.1 stands.2))
       (looked p c k stands.0 there.0 (not-false (valid_party p) f.0) (idle_is (slot_of s p) f.1.1.1.1.0) stands.1 stands.2)
 
-  -- ---- begin_sweep and sweep
+  -- ---- begin-sweep and sweep
 
   began_sweep_effect : (p c : ℕ) (k : List ℕ) (r : Result StampValue Refusal) (s' : State) → Step S s (began_sweep p c k r) s' → Effect S s (deed (began_sweep p c k r)) s'
   began_sweep_effect p c k (Err e) s' d = still _ _ _ s' e d
@@ -265,7 +265,7 @@ module _ (S : Setting) (s : State) where
       let (x, m) = matched p i n buffer buffer' s' d in
       at _ _ s' m.leaves (completed p i (take n buffer') x s'.clouds m.party m.slot m.long m.digest m.kept)
 
-  -- ---- look_again
+  -- ---- look-again
 
   again_effect : (p : ℕ) (r : Result FoundValue Refusal) (s' : State) → Step S s (looked_again p r) s' → Effect S s (deed (looked_again p r)) s'
   again_effect p r s' d = by r d.0 (first_of (caller_grounds ++ slot_grounds) S (look_again p) s) refl where

@@ -1,4 +1,4 @@
--- The constants of SHA1, as FIPS 180-4 lists them.
+-- The constants of SHA-1, as FIPS 180-4 lists them.
 use Rattle.std.specs.Prelude.{ℕ, List, [], ◌∷◌}
 
 -- the constants of the rounds: each is that of twenty rounds

@@ -1,4 +1,4 @@
--- A SHA1 digest is 20 bytes, and the standard's example.
+-- A SHA-1 digest is 20 bytes, and the standard's example.
 use Rattle.std.specs.Prelude.{◌≡◌, ℕ, ◌<◌, List, length, slice_index, refl}
 use Rattle.digest.specs.Words.{sums}
 use Rattle.digest.specs.Rounds.{turned, grown, compression}

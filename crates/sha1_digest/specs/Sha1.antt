@@ -1,4 +1,4 @@
--- SHA1, as FIPS 180-4 defines it: its functions on words, its message schedule, its rounds and the digest.
+-- SHA-1, as FIPS 180-4 defines it: its functions on words, its message schedule, its rounds and the digest.
 use Rattle.std.specs.Prelude.{◌≡◌, ℕ, ◌/◌, cond, List, [], ◌∷◌, bit_xor, nat_lt, slice_index}
 use Rattle.digest.specs.Words.{plus, rotl, ch, maj}
 use Rattle.digest.specs.Rounds.{compression}

@@ -1,4 +1,4 @@
--- The constants of SHA256, as FIPS 180-4 lists them.
+-- The constants of SHA-256, as FIPS 180-4 lists them.
 use Rattle.std.specs.Prelude.{ℕ, List, [], ◌∷◌}
 
 -- the constants K_0 to K_63 of the rounds

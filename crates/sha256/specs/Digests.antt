@@ -1,4 +1,4 @@
--- A SHA256 digest is 32 bytes, and the standard's example.
+-- A SHA-256 digest is 32 bytes, and the standard's example.
 use Rattle.std.specs.Prelude.{◌≡◌, refl, List, ℕ, ◌<◌, length, get_or}
 use Rattle.digest.specs.Words.{sums}
 use Rattle.digest.specs.Rounds.{turned, grown, compression}

@@ -1,4 +1,4 @@
--- SHA256, as FIPS 180-4 defines it: its functions on words, its message schedule, its rounds and the digest.
+-- SHA-256, as FIPS 180-4 defines it: its functions on words, its message schedule, its rounds and the digest.
 use Rattle.std.specs.Prelude.{ℕ, ◌≡◌, List, [], ◌∷◌, get_or}
 use Rattle.std.specs.Int.Bits.{bit_xor}
 use Rattle.digest.specs.Words.{plus, shr, rotr, ch, maj}

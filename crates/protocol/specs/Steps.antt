@@ -38,9 +38,9 @@ or_kept None old new = new
 or_kept (Some e) old new = old
 
 -- a call that asks no cloud: it is refused and leaves all as it stood, or answers x and leaves t
-pub record Does {X : Type 0} (ground : Option Refusal) (x : X) (t s : State) (r : Result X Refusal) (s' : State) : Type 0 where
-  pub answers : r ≡ or_refused ground x
-  pub leaves : s' ≡ or_kept ground s t
+pub record Does {X : Type 0} (refusal : Option Refusal) (x : X) (t s : State) (r : Result X Refusal) (s' : State) : Type 0 where
+  pub answers : r ≡ or_refused refusal x
+  pub leaves : s' ≡ or_kept refusal s t
 
 -- a call that asks a cloud: it is refused before and leaves all as it stood, or does what it does with the cloud
 abbrev pub Asks : {X : Type 0} → Option Refusal → Type 0 → State → Result X Refusal → State → Type 0
@@ -186,9 +186,9 @@ pub record Sweeps (s : State) (i : ℕ) (x : SweepingValue) (r : Result ℕ Refu
 
 -- ---- listing
 
-pub record Lists (ground : Option Refusal) (s : State) (keys : List (List ℕ)) (buffer buffer' : List ℕ) (r : Result Listed Refusal) (s' : State) : Type 0 where
-  pub answers : r ≡ or_refused ground (record { count = length keys; bytes = length (listing keys) })
-  pub writes : buffer' ≡ or_kept ground buffer (over (listing keys) buffer)
+pub record Lists (refusal : Option Refusal) (s : State) (keys : List (List ℕ)) (buffer buffer' : List ℕ) (r : Result Listed Refusal) (s' : State) : Type 0 where
+  pub answers : r ≡ or_refused refusal (record { count = length keys; bytes = length (listing keys) })
+  pub writes : buffer' ≡ or_kept refusal buffer (over (listing keys) buffer)
   pub leaves : s' ≡ s
 
 -- ---- every call

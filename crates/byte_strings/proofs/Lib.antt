@@ -1,2 +1,2 @@
-pub mod Order
 pub mod Least
+pub mod Padding

@@ -1,2 +1,4 @@
 pub mod Order
+pub mod OrderLaws
 pub mod Least
+pub mod Fixed

@@ -1,5 +1,7 @@
-//! Byte strings: their order, and the smallest element above a bound.
+//! Byte strings: their order, the smallest element above a bound, and byte strings kept in place.
 #![tactic(auto)]
 
 pub mod compare;
+pub mod fixed;
+pub mod named;
 pub mod successor;

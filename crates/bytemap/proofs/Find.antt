@@ -5,7 +5,7 @@ use Rattle.std.proofs.lemmas.Slice.Eq.{bytes_eq-Decides}
 use Rattle.std.proofs.lemmas.Bool.{cases_Bool, both_ways}
 use Rattle.std.proofs.lemmas.Bool.Decides.{nat_tests}
 use Rattle.byte_strings.specs.Order.{below}
-use Rattle.byte_strings.proofs.Order.{below_irreflexive, below_transitive, below_trichotomy}
+use Rattle.byte_strings.specs.OrderLaws.{below_irreflexive, below_transitive, below_trichotomy}
 use Rattle.bytemap.specs.Map.{Map, find, insert, remove, AllAbove, Ascending, gathered}
 
 -- ---- tests

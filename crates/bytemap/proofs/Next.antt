@@ -5,7 +5,7 @@ use Rattle.std.specs.Option.{option_map}
 use Rattle.std.proofs.lemmas.Bool.{cases_Bool, both_ways}
 use Rattle.byte_strings.specs.Order.{below, at_most}
 use Rattle.byte_strings.specs.Least.{Least}
-use Rattle.byte_strings.proofs.Order.{below_or_at_most, at_most_antisymmetric}
+use Rattle.byte_strings.specs.OrderLaws.{below_or_at_most, at_most_antisymmetric}
 use Rattle.bytemap.specs.Map.{Map, find, next_key, AllAbove, Ascending, gathered}
 use Rattle.bytemap.proofs.Find.{before_first, find_empty, none_or_some, same_self, same_is, apart, find_cons, find_gathered, ascending_gathered}
 

@@ -3,7 +3,7 @@ use Rattle.std.proofs.Common.{◌≡◌, ℕ, suc, ◌≤◌, true, false, List,
 use lib.ListN.{length-map}
 use Rattle.std.proofs.lemmas.Bool.{cases_Bool}
 use Rattle.byte_strings.specs.Order.{below}
-use Rattle.byte_strings.proofs.Order.{below_irreflexive}
+use Rattle.byte_strings.specs.OrderLaws.{below_irreflexive}
 use Rattle.bytemap.specs.Map.{Map, next_key, beyond, keys, AllAbove, Ascending}
 use Rattle.bytemap.proofs.Find.{all_above_weaker, below_asymmetric}
 

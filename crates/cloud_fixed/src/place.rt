@@ -3,7 +3,7 @@
 ghost use Rattle.std.specs.Prelude.{◌≡◌, ◌≤◌, Bool, length};
 ghost use Rattle.byte_strings.specs.Order.{at_most, below};
 ghost use Rattle.cloud_fixed.specs.Places.{name_of, value_of, entry};
-ghost use Rattle.byte_strings.proofs.Order.{preorder_by, at_most_preorder};
+ghost use Rattle.byte_strings.specs.OrderLaws.{preorder_by, at_most_preorder};
 
 use crate::name::Name;
 use crate::value::Value;

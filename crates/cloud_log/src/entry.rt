@@ -4,7 +4,7 @@ ghost use Rattle.std.specs.Prelude.{◌≡◌, ◌≤◌, length};
 ghost use Rattle.byte_strings.specs.Order.{at_most, below};
 ghost use Rattle.cloud.specs.Meaning.{longest_value};
 ghost use Rattle.cloud_log.specs.Index.{name_of, record_size, end_of, value_in};
-ghost use Rattle.byte_strings.proofs.Order.{preorder_by, at_most_preorder};
+ghost use Rattle.byte_strings.specs.OrderLaws.{preorder_by, at_most_preorder};
 
 use crate::name::Name;
 use byte_strings::compare;

@@ -5,7 +5,7 @@ use Rattle.std.specs.Option.{option_map}
 use Rattle.std.proofs.lemmas.Bool.{cases_Bool, both_ways, eqb-true, eq-eqb, and_from, and_parts}
 use Rattle.byte_strings.specs.Order.{below, at_most}
 use Rattle.byte_strings.specs.Least.{Least}
-use Rattle.byte_strings.proofs.Order.{below_heads}
+use Rattle.byte_strings.specs.OrderLaws.{below_heads}
 use Rattle.bytemap.specs.Map.{Map, find, next_key, AllAbove, Ascending, gathered}
 use Rattle.bytemap.proofs.Find.{find_cons, find_empty, find_gathered, none_or_some, ascending_gathered}
 use Rattle.bytemap.proofs.Next.{next_none, next_some, found_at, found_from}

@@ -4,7 +4,7 @@ use Rattle.std.specs.Option.{option_map}
 use Rattle.std.proofs.lemmas.Bool.{cases_Bool, both_ways}
 use Rattle.std.proofs.lemmas.List.{take_at}
 use Rattle.byte_strings.specs.Order.{below, at_most}
-use Rattle.byte_strings.proofs.Order.{below_irreflexive}
+use Rattle.byte_strings.specs.OrderLaws.{below_irreflexive}
 use Rattle.bytemap.specs.Map.{Map, find, next_key, beyond, AllAbove, Ascending}
 use Rattle.bytemap.proofs.Find.{find_cons, same_self, below_apart, below_asymmetric, all_above_weaker}
 use Rattle.bytemap.proofs.Next.{next_is_found}

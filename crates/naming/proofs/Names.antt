@@ -5,7 +5,7 @@ use Rattle.std.proofs.lemmas.Bool.{both_ways, le-leb}
 use Rattle.std.proofs.lemmas.Bool.Decides.{nat_tests}
 use denote.Struct.Record.{values_one}
 use Rattle.byte_strings.specs.Order.{below}
-use Rattle.byte_strings.proofs.Order.{below_prefix, below_heads, below_empty}
+use Rattle.byte_strings.specs.OrderLaws.{below_prefix, below_heads, below_empty}
 use Rattle.naming.specs.contracts.name.Name.{struct, the_propositions}
 use Rattle.naming.specs.declared.name.Name.{Name}
 use Rattle.naming.specs.declared.stamp.Stamp.{Stamp}

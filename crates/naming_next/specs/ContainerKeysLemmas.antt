@@ -5,7 +5,7 @@ use Rattle.std.proofs.lemmas.Bool.Decides.{nat_tests}
 use Rattle.byte_strings.specs.Order.{at_most, below, TotalPreorder, UpwardClosed}
 use Rattle.byte_strings.specs.Least.{NonePasses, LeastAt}
 use Rattle.byte_strings.proofs.Least.{narrow_none, narrow_found, narrow_past}
-use Rattle.byte_strings.proofs.Order.{preorder_by, at_most_preorder, at_most_heads, below_heads, above_is_upward_closed}
+use Rattle.byte_strings.specs.OrderLaws.{preorder_by, at_most_preorder, at_most_heads, below_heads, above_is_upward_closed}
 use Rattle.naming.specs.Keys.{key_bytes}
 use Rattle.naming_next.specs.declared.container_key.ContainerKey.{ContainerKey}
 use Rattle.naming_next.specs.declared.container_key.KeyBound.{KeyBound}

@@ -6,7 +6,7 @@ use Rattle.std.proofs.lemmas.Slice.Eq.{bytes_eq-Decides}
 use Rattle.std.proofs.lemmas.Bool.{cases_Bool, both_ways, not-true}
 use Rattle.refusal.specs.declared.Cause.{Cause}
 use Rattle.byte_strings.specs.Order.{below, at_most}
-use Rattle.byte_strings.proofs.Order.{at_most_reflexive, at_most_transitive, at_most_antisymmetric, below_irreflexive, below_at_most, below_or_at_most, at_most_then_below}
+use Rattle.byte_strings.specs.OrderLaws.{at_most_reflexive, at_most_transitive, at_most_antisymmetric, below_irreflexive, below_at_most, below_or_at_most, at_most_then_below}
 use Rattle.bytemap.specs.Map.{Map, find, remove, next_key, beyond, Ascending}
 use Rattle.bytemap.proofs.Find.{apart, same_is, find_remove, not_above as not_found, ascending_remove, none_or_some}
 use Rattle.bytemap.proofs.Next.{next_is_above, next_is_found, next_is_least, none_is_above}

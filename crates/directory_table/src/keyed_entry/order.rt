@@ -1,7 +1,7 @@
 //! The order of the containers and then of the keys.
 
 ghost use Rattle.naming_next.specs.ContainerKeys.{container_key_le, container_key_above};
-ghost use Rattle.byte_strings.proofs.Order.{preorder_by};
+ghost use Rattle.byte_strings.specs.OrderLaws.{preorder_by};
 ghost use Rattle.naming_next.specs.ContainerKeysLemmas.{container_key_preorder};
 
 use crate::keyed_entry::KeyedEntry;

@@ -2,7 +2,7 @@
 
 ghost use Rattle.naming.specs.NameOrder.{name_le, name_above};
 ghost use Rattle.byte_strings.specs.Order.{at_most};
-ghost use Rattle.byte_strings.proofs.Order.{preorder_by, at_most_preorder};
+ghost use Rattle.byte_strings.specs.OrderLaws.{preorder_by, at_most_preorder};
 ghost use Rattle.naming.specs.Names.{name_bytes};
 
 use super::Name;

@@ -3,7 +3,7 @@ use Rattle.std.proofs.lemmas.Cmp.{same_from_slice_cmp_tested}
 use Rattle.std.proofs.lemmas.Bool.Decides.{nat_tests}
 use Rattle.std.specs.Ordering.{is_le, nat_cmp}
 use Rattle.byte_strings.specs.Order.{at_most}
-use Rattle.byte_strings.proofs.Order.{byte_strings_are_ordered}
+use Rattle.byte_strings.specs.OrderLaws.{byte_strings_are_ordered}
 use Rattle.byte_strings.proofs.compare.is_at_most.Goals as goal
 
 pub returns : goal.returns

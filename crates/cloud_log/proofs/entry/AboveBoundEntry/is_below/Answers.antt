@@ -1,5 +1,5 @@
 use Rattle.std.proofs.Common.{rules}
-use Rattle.byte_strings.proofs.Order.{above_is_upward_closed}
+use Rattle.byte_strings.specs.OrderLaws.{above_is_upward_closed}
 use Rattle.cloud_log.specs.Index.{name_of}
 use Rattle.cloud_log.proofs.entry.AboveBoundEntry.is_below.Goals as goal
 

@@ -1,5 +1,5 @@
 use Rattle.std.proofs.Common.{rules}
-use Rattle.byte_strings.proofs.Order.{above_is_upward_closed}
+use Rattle.byte_strings.specs.OrderLaws.{above_is_upward_closed}
 use Rattle.naming.specs.Names.{name_bytes}
 use Rattle.naming.proofs.name.order.RefSliceU8BoundName.is_below.Goals as goal
 

@@ -1,6 +1,6 @@
 use Rattle.std.proofs.Common.{◌≡◌, ◌+◌, ◌-◌, length, drop, ap, ◌∙◌, arith}
 use Rattle.std.proofs.lemmas.List.{drop-drop}
-use Rattle.naming.proofs.buffer.overwrite.Goals as goal
+use Rattle.byte_strings.proofs.fixed.overwrite.Goals as goal
 
 pub returns : goal.returns
 returns c =

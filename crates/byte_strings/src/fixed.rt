@@ -1,0 +1,93 @@
+//! Byte strings of limited length, kept in place.
+
+ghost use Rattle.std.specs.Prelude.{◌≡◌, ◌+◌, ◌<◌, ◌≤◌, [], ◌++◌, length, take, drop, OnOk, OnErr, IfSome, IfNone};
+
+use std::marker::Model;
+
+/// A byte string of at most `N` bytes. Past them the array holds zeros, so that equal strings are equal in every byte.
+#[derive(Clone, Copy)]
+pub struct FixedBytes<const N: usize> {
+    bytes: [u8; N],
+    len: usize,
+}
+
+/// Clauses see the byte string.
+impl<const N: usize> Model for FixedBytes<N> {
+    ghost use Rattle.std.specs.Prelude.{◌≡◌, ◌-◌, ◌≤◌, ℕ, List, drop, length, replicate};
+
+    ghost Value = { List ℕ };
+
+    ghost use Rattle.byte_strings.specs.Fixed.{used, padded, padded_used};
+
+    ghost view = { λ s. used N s };
+
+    ghost invariant = { λ s. (s.len ≤ N) × (drop s.len s.bytes ≡ replicate (N - s.len) 0) × (length s.bytes ≡ N) };
+
+    ghost inverse = { λ bs. padded N bs };
+
+    ghost inverse_ok = { λ s h. padded_used N s h.0 h.1 h.2 };
+}
+
+/// There is no room for what was to be appended.
+#[derive(Clone, Copy, Debug, PartialEq, Eq)]
+pub struct NoRoom;
+
+// Writes the bytes over those that stand from `at` on.
+fn overwrite(buffer: &mut [u8], at: usize, bytes: &[u8])
+    requires { at + length bytes.now ≤ length buffer.old }
+    ensures { buffer.new ≡ take at buffer.old ++ (bytes.now ++ drop (at + length bytes.now) buffer.old) }
+{
+    let end = at + bytes.len();
+    buffer[at..end].copy_from_slice(bytes);
+}
+
+impl<const N: usize> FixedBytes<N> {
+    /// The byte string without a byte.
+    pub fn new() -> Self
+        ensures { result ≡ [] }
+    {
+        FixedBytes {
+            bytes: [0; N],
+            len: 0,
+        }
+    }
+
+    /// These bytes, where they are not too many.
+    pub fn from_slice(bytes: &[u8]) -> Option<Self>
+        ensures found { IfSome result (λ s. (s ≡ bytes.now) × (length bytes.now ≤ N)) }
+        ensures none { IfNone result (N < length bytes.now) }
+    {
+        let mut all = FixedBytes::new();
+        all.append(bytes).ok()?;
+        Some(all)
+    }
+
+    /// Appends the bytes; where there is no room for all of them, nothing changes.
+    pub fn append(&mut self, bytes: &[u8]) -> Result<(), NoRoom>
+        ensures ok { OnOk result ((self.new ≡ self.old ++ bytes.now) × (length self.old + length bytes.now ≤ N)) }
+        ensures err { OnErr result ((self.new ≡ self.old) × (N < length self.old + length bytes.now)) }
+    {
+        if bytes.len() > N - self.len {
+            return Err(NoRoom);
+        }
+        overwrite(&mut self.bytes, self.len, bytes);
+        self.len += bytes.len();
+        Ok(())
+    }
+
+    /// The bytes.
+    pub fn as_slice(&self) -> &[u8]
+        ensures value { result.now ≡ self.now }
+        ensures short { length self.now ≤ N }
+    {
+        &self.bytes[..self.len]
+    }
+
+    /// How many bytes there are.
+    pub fn len(&self) -> usize
+        ensures value { result ≡ length self.now }
+        ensures short { length self.now ≤ N }
+    {
+        self.as_slice().len()
+    }
+}

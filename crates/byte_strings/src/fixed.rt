@@ -1,6 +1,6 @@
 //! Byte strings of limited length, kept in place.
 
-ghost use Rattle.std.specs.Prelude.{◌≡◌, ◌+◌, ◌<◌, ◌≤◌, [], ◌++◌, length, take, drop, OnOk, OnErr, IfSome, IfNone};
+ghost use Rattle.std.specs.Prelude.{◌≡◌, ◌+◌, ◌<◌, ◌≤◌, [], ◌++◌, length, take, drop, IfSome, IfNone};
 
 use std::marker::Model;
 
@@ -28,10 +28,6 @@ impl<const N: usize> Model for FixedBytes<N> {
     ghost inverse_ok = { λ s h. padded_used N s h.0 h.1 h.2 };
 }
 
-/// There is no room for what was to be appended.
-#[derive(Clone, Copy, Debug, PartialEq, Eq)]
-pub struct NoRoom;
-
 // Writes the bytes over those that stand from `at` on.
 fn overwrite(buffer: &mut [u8], at: usize, bytes: &[u8])
     requires { at + length bytes.now ≤ length buffer.old }
@@ -57,22 +53,21 @@ impl<const N: usize> FixedBytes<N> {
         ensures found { IfSome result (λ s. (s ≡ bytes.now) × (length bytes.now ≤ N)) }
         ensures none { IfNone result (N < length bytes.now) }
     {
+        if bytes.len() > N {
+            return None;
+        }
         let mut all = FixedBytes::new();
-        all.append(bytes).ok()?;
+        all.append(bytes);
         Some(all)
     }
 
-    /// Appends the bytes; where there is no room for all of them, nothing changes.
-    pub fn append(&mut self, bytes: &[u8]) -> Result<(), NoRoom>
-        ensures ok { OnOk result ((self.new ≡ self.old ++ bytes.now) × (length self.old + length bytes.now ≤ N)) }
-        ensures err { OnErr result ((self.new ≡ self.old) × (N < length self.old + length bytes.now)) }
+    /// Appends the bytes, for which there is room.
+    pub fn append(&mut self, bytes: &[u8])
+        requires { length self.old + length bytes.now ≤ N }
+        ensures { self.new ≡ self.old ++ bytes.now }
     {
-        if bytes.len() > N - self.len {
-            return Err(NoRoom);
-        }
         overwrite(&mut self.bytes, self.len, bytes);
         self.len += bytes.len();
-        Ok(())
     }
 
     /// The bytes.

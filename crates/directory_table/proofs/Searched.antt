@@ -4,7 +4,6 @@ use Rattle.std.specs.Option.{option_map}
 use Rattle.byte_strings.specs.Least.{Least, LeastAt, NonePasses}
 use Rattle.byte_strings.proofs.Least.{narrow_none, narrow_found, narrow_past}
 use Rattle.bytemap.specs.Map.{next_key, gathered}
-use Rattle.naming.specs.Keys.{key_bytes}
 use Rattle.naming_next.specs.declared.container_key.KeyBound.{KeyBound}
 use Rattle.naming_next.specs.ContainerKeys.{container_key_le, container_key_above, key_above}
 use Rattle.naming_next.specs.ContainerKeysLemmas.{above_from_key, key_from_above, none_after}
@@ -22,9 +21,9 @@ abbrev in_container : ℕ → List ℕ → KeyedEntry → Bool
 in_container c above x = key_above c above x.at
 
 least_in_container : (c : ℕ) (above : List ℕ) (xs : List KeyedEntry) (r : Option ℕ) → Least (in_container c above) by_key xs (length xs) r
-    → (d : KeyedEntry) → next_key (contents c (gathered (pairs xs))) above ≡ option_map (λ i. key_bytes (get_or xs i d).at.key) r
+    → (d : KeyedEntry) → next_key (contents c (gathered (pairs xs))) above ≡ option_map (λ i. (get_or xs i d).bytes.at.key) r
 least_in_container c above xs r least d =
-    next_from_records (λ x. x.at.container) (λ x. key_bytes x.at.key) (λ x. entry_value x.entry) xs c above d r least
+    next_from_records (λ x. x.at.container) (λ x. x.at.key.bytes) (λ x. entry_value x.entry) xs c above d r least
 
 index_after : (c : ℕ) (above : List ℕ) (xs : List KeyedEntry) (r : Option ℕ) → Least (in_container c above) by_key xs (length xs) r → IndexAfter xs c above r
 unfolding next_key contents gathered

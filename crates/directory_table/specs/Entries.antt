@@ -1,7 +1,6 @@
 -- What entries with their keys stand for.
 use Rattle.std.specs.Prelude.{◌≡◌, ℕ, ◌-◌, ◌<◌, List, map, length, Some, None, Option, slice_index_or}
 use Rattle.bytemap.specs.Map.{find, next_key, gathered}
-use Rattle.naming.specs.Keys.{key_bytes}
 use Rattle.entry.specs.Entries.{EntryValue, entry_value}
 use Rattle.directory.specs.Meaning.{DirectoryMeaning, address, contents}
 use Rattle.directory_table.specs.declared.keyed_entry.KeyedEntry.{KeyedEntry}
@@ -10,7 +9,7 @@ abbrev pub container_of : KeyedEntry → ℕ
 container_of x = x.at.container
 
 abbrev pub key_of : KeyedEntry → List ℕ
-key_of x = key_bytes x.at.key
+key_of x = x.at.key.bytes
 
 abbrev pub value_of : KeyedEntry → EntryValue
 value_of x = entry_value x.entry

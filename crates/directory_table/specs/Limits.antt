@@ -6,7 +6,6 @@ use Rattle.std.proofs.lemmas.List.{length-map}
 use Rattle.bytemap.specs.Map.{gathered}
 use Rattle.bytemap.proofs.Find.{find_gathered, ascending_gathered}
 use Rattle.bytemap.proofs.Pairs.{length_gathered}
-use Rattle.naming.specs.Keys.{key_bytes}
 use Rattle.naming.proofs.Keys.{key_is_valid}
 use Rattle.entry.specs.Entries.{ValidEntry}
 use Rattle.entry.proofs.Valid.{entry_is_valid}
@@ -24,7 +23,7 @@ within_limits xs places different used few =
       addresses = λ a e h.
           let r = found_in pair xs a e (sym (find_gathered (pairs xs) a) ∙ h) in
           let x = r.0 in
-          (x.at.container, key_bytes x.at.key, sym r.1, x.byte, key_is_valid x.at.key);
+          (x.at.container, x.at.key.bytes, sym r.1, x.byte, key_is_valid x.at.key);
       valid = λ a e h.
           let r = found_in pair xs a e (sym (find_gathered (pairs xs) a) ∙ h) in
           subst ValidEntry r.2 (entry_is_valid r.0.entry);

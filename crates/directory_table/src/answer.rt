@@ -3,7 +3,6 @@
 ghost use Rattle.std.specs.Prelude.{◌≡◌};
 ghost use Rattle.std.specs.Option.{option_map};
 ghost use Rattle.entry.specs.Entries.{entry_value};
-ghost use Rattle.naming.specs.Stamps.{stamp_value};
 ghost use Rattle.directory.specs.Calls.{stamp_of};
 ghost use Rattle.directory_table.specs.Answer.{answer_of};
 
@@ -26,7 +25,7 @@ pub(crate) fn commit_answer(present: Option<Entry>, free: usize, entry: &Entry) 
 
 // The stamp that a new one must be above.
 fn last_stamp(present: Option<Entry>) -> Stamp
-    ensures { stamp_value result ≡ stamp_of (option_map entry_value present) }
+    ensures { result ≡ stamp_of (option_map entry_value present) }
 {
     match present {
         Some(last) => last.stamp(),

@@ -1,6 +1,4 @@
 //! Searches through entries: for a key, and for the smallest key above given bytes.
-
-ghost use Rattle.naming.specs.Keys.{key_bytes};
 ghost use Rattle.directory_table.specs.Entries.{IndexOf, IndexAfter};
 
 use crate::keyed_entry::KeyedEntry;
@@ -10,7 +8,7 @@ use naming_next::container_key::KeyBound;
 
 // The index of the entry of this key.
 pub(crate) fn index_of(entries: &[KeyedEntry], container: u8, key: &Key) -> Option<usize>
-    ensures { IndexOf entries.now container (key_bytes key.now) result }
+    ensures { IndexOf entries.now container key.now.bytes result }
 {
     for (i, item) in entries.iter().enumerate() {
         if item.is_of(container, key) {

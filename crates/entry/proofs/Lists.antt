@@ -1,7 +1,7 @@
 -- A list of clouds, one bit each.
 use Rattle.std.proofs.Common.{◌≡◌, ℕ, ◌+◌, ◌-◌, ◌/◌, ◌%◌, ◌^◌, ◌≤◌, false, eqb, ap, ◌∙◌, arith}
 use Rattle.std.proofs.lemmas.Nat.{shr-shr, shr_le}
-use Rattle.entry.specs.Entries.{lists}
+use Rattle.entry.specs.Clouds.{lists}
 
 -- a list of eight bits has no cloud 8
 pub past_the_list : (clouds i : ℕ) → clouds ≤ 127 → 8 ≤ i → lists clouds i ≡ false

@@ -13,7 +13,7 @@ live_is_valid l =
 pub entry_is_valid : (e : Entry) → ValidEntry (entry_value e)
 entry_is_valid e =
     record {
-      stamp_known = record { sequence_fits = e.stamp.fits; writer_known = e.stamp.known };
+      stamp_known = e.known;
       stamped = and_from _ _ (le-leb 1 e.stamp.sequence e.numbered) (le-leb 1 e.stamp.writer e.written);
       live_fits = valid_if_live e.live;
     }

@@ -1,7 +1,7 @@
 -- What an entry stands for.
-use Rattle.std.specs.Prelude.{◌≡◌, ℕ, ◌/◌, ◌%◌, ◌^◌, Bool, true, ◌&&◌, List, IfSome, Option, ◌==◌, nat_le}
+use Rattle.std.specs.Prelude.{◌≡◌, ℕ, Bool, true, ◌&&◌, List, IfSome, Option, nat_le}
 use Rattle.std.specs.Option.{option_map}
-use Rattle.naming.specs.Stamps.{StampValue, ValidStamp, stamp_value}
+use Rattle.naming.specs.Stamps.{StampValue, ValidStamp}
 use Rattle.digest.specs.Value.{digest_bytes}
 use Rattle.entry.specs.Bytes.{digest_fits}
 use Rattle.entry.specs.declared.live.Live.{Live}
@@ -22,7 +22,7 @@ abbrev pub live_value : Live → LiveValue
 live_value l = record { clouds = l.clouds; size = l.size; digest = digest_bytes l.digest }
 
 abbrev pub entry_value : Entry → EntryValue
-entry_value e = record { stamp = stamp_value e.stamp; live = option_map live_value e.live }
+entry_value e = record { stamp = e.stamp; live = option_map live_value e.live }
 
 -- ---- limits
 
@@ -37,9 +37,3 @@ pub record ValidEntry (e : EntryValue) : Type 0 where
   pub stamp_known : ValidStamp e.stamp
   pub stamped : stamp_taken e.stamp ≡ true
   pub live_fits : IfSome e.live (λ l. valid_live l ≡ true)
-
--- ---- the list of clouds
-
--- the cloud i is in the list
-abbrev pub lists : ℕ → ℕ → Bool
-lists clouds i = clouds / 2 ^ i % 2 == 1

@@ -1,2 +1,3 @@
 pub mod Bytes
+pub mod Clouds
 pub mod Entries

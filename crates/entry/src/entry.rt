@@ -1,6 +1,7 @@
 //! The entry of a key.
 
 ghost use Rattle.std.specs.Prelude.{◌≤◌};
+ghost use Rattle.naming.specs.Stamps.{ValidStamp};
 
 use crate::live::Live;
 use naming::stamp::Stamp;
@@ -12,6 +13,7 @@ mod methods;
 pub struct Entry {
     stamp: Stamp,
     live: Option<Live>,
+    ghost known: { ValidStamp stamp },
     ghost numbered: { 1 ≤ stamp.sequence },
     ghost written: { 1 ≤ stamp.writer },
 }

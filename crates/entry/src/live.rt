@@ -4,15 +4,19 @@ ghost use Rattle.std.specs.Prelude.{◌≡◌, ◌≤◌, true};
 ghost use Rattle.digest.specs.Value.{digest_bytes};
 ghost use Rattle.entry.specs.Bytes.{digest_fits};
 
+use crate::clouds::CloudSet;
 use digest::value::Digest;
 
 mod methods;
 
+/// The longest value.
+pub const LONGEST_VALUE: usize = 1024;
+
 /// A value that is there: the clouds that hold it, its size and its digest.
 #[derive(Clone, Copy)]
 pub struct Live {
-    // One bit for each cloud of the row, cloud 0 lowest: at least one, and at most seven.
-    clouds: u8,
+    // At least one.
+    clouds: CloudSet,
     size: u16,
     digest: Digest,
     ghost listed: { 1 ≤ clouds },

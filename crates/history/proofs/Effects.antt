@@ -12,7 +12,7 @@ use Rattle.directory.specs.declared.interface.CommitAnswer.TheVariants.{Committe
 use Rattle.directory.specs.Meaning.{DirectoryMeaning, address}
 use Rattle.directory.specs.Calls.{entry_of, stamp_of, commit_answer, commit_after, when_committed, place_answer}
 use Rattle.protocol.specs.declared.answers.CommitOutcome.TheVariants.{Committed, Passed}
-use Rattle.protocol.specs.Clouds.{count}
+use Rattle.entry.specs.Clouds.{count}
 use Rattle.protocol.specs.Slots.{SlotValue, SavingValue, FetchingValue, SweepingValue, idle, saving, fetching, sweeping}
 use Rattle.protocol.specs.State.{Setting, State, valid_party, slot_of, with_slot, with_clouds, with_directory}
 use Rattle.protocol.specs.Grounds.{live_of, is_there, saved_entry}

@@ -4,7 +4,8 @@ use Rattle.std.proofs.lemmas.Bool.{cases_Bool, both_ways}
 use Rattle.bytemap.specs.Map.{find, Ascending}
 use Rattle.naming.specs.Stamps.{StampValue, stamp_below}
 use Rattle.naming.proofs.Stamps.{stamp_below_transitive}
-use Rattle.entry.specs.Entries.{EntryValue, LiveValue, lists}
+use Rattle.entry.specs.Entries.{EntryValue, LiveValue}
+use Rattle.entry.specs.Clouds.{lists}
 use Rattle.cloud.specs.Meaning.{CloudMeaning}
 use Rattle.row.specs.Rows.{no_cloud}
 use Rattle.directory.specs.Meaning.{DirectoryMeaning}

@@ -6,7 +6,8 @@ use Rattle.bytemap.specs.Map.{find, insert, Ascending}
 use Rattle.bytemap.proofs.Find.{find_insert, same_is, ascending_insert}
 use Rattle.naming.specs.Stamps.{StampValue, stamp_below}
 use Rattle.naming.proofs.Stamps.{stamp_below_irreflexive, stamp_below_transitive, below_next_stamp}
-use Rattle.entry.specs.Entries.{EntryValue, LiveValue, lists}
+use Rattle.entry.specs.Entries.{EntryValue, LiveValue}
+use Rattle.entry.specs.Clouds.{lists}
 use Rattle.cloud.specs.Meaning.{CloudMeaning}
 use Rattle.row.specs.Rows.{no_cloud}
 use Rattle.directory.specs.Meaning.{DirectoryMeaning, address}

@@ -4,7 +4,7 @@ use Rattle.std.specs.Str.{bytes_eq}
 use Rattle.std.proofs.lemmas.Bool.{and_parts, leb-true, eq-eqb, ne_eqb, cases_lt, le-leb, lt-leb, le-ltb, and_from}
 use Rattle.bytemap.specs.Map.{find}
 use Rattle.naming.specs.Stamps.{StampValue}
-use Rattle.entry.specs.Entries.{LiveValue, lists}
+use Rattle.entry.specs.Entries.{LiveValue}
 use Rattle.cloud.specs.Meaning.{CloudMeaning}
 use Rattle.row.specs.Rows.{no_cloud}
 use Rattle.directory.specs.Meaning.{DirectoryMeaning, address}
@@ -30,7 +30,7 @@ use Rattle.refusal.specs.declared.Refusal.{Refusal}
 use Rattle.refusal.specs.declared.Refusal.TheVariants.{ValueMismatch}
 use Rattle.bytemap.proofs.Find.{same_self}
 use Rattle.cloud.specs.Outcomes.{Length, GetOutcome, get_answer, get_part, length_within, part_within, over}
-use Rattle.protocol.specs.Clouds.{chosen, all_clouds, count}
+use Rattle.entry.specs.Clouds.{lists, chosen, all_clouds, count}
 use Rattle.protocol.specs.Calls.{try_cloud}
 use Rattle.protocol.specs.Grounds.{first_ground}
 use Rattle.protocol.specs.Events.{tried}

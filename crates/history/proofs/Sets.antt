@@ -5,8 +5,7 @@ use native.Mathlib.Decide.{ℕ_discrete}
 use lib.Bits.{bit_or, or_shr, or_mod, or_zero_r, shifted_even}
 use lib.Pow.{high, pow-lt, shl-shr}
 use Rattle.std.proofs.lemmas.Bool.{cases_Bool, cases_lt}
-use Rattle.entry.specs.Entries.{lists}
-use Rattle.protocol.specs.Clouds.{with_cloud, chosen, all_clouds, count}
+use Rattle.entry.specs.Clouds.{lists, with_cloud, chosen, all_clouds, count}
 use Rattle.history.specs.Promises.{Different}
 
 -- ---- one cloud more

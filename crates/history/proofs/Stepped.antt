@@ -22,7 +22,7 @@ use Rattle.directory.specs.Meaning.{DirectoryMeaning}
 use Rattle.directory.specs.Calls.{entry_of, stamp_of, commit_answer, commit_after}
 use Rattle.protocol.specs.declared.answers.CommitOutcome.{CommitOutcome}
 use Rattle.protocol.specs.declared.answers.CommitOutcome.TheVariants.{Committed, Passed}
-use Rattle.protocol.specs.Clouds.{count}
+use Rattle.entry.specs.Clouds.{count}
 use Rattle.protocol.specs.Slots.{SlotValue, SavingValue, FetchingValue, idle, saving, fetching, sweeping, is_saving, is_fetching, of_fetching}
 use Rattle.protocol.specs.State.{Setting, State, valid_party, slot_of, with_slot, with_clouds, with_directory}
 use Rattle.protocol.specs.Calls.{Call, begin_save, store, commit, delete, begin_fetch, try_cloud, look_again, begin_sweep, sweep, leave}

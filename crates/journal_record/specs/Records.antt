@@ -1,6 +1,5 @@
 -- What a record stands for.
 use Rattle.std.specs.Prelude.{◌≡◌, ℕ, ◌≤◌, true, List}
-use Rattle.naming.specs.Keys.{key_bytes}
 use Rattle.naming.specs.Text.{valid_key}
 use Rattle.entry.specs.Entries.{EntryValue, ValidEntry, entry_value}
 use Rattle.journal_record.specs.declared.record.Record.{Record}
@@ -12,7 +11,7 @@ pub record RecordValue : Type 0 where
   pub entry : EntryValue
 
 abbrev pub record_value : Record → RecordValue
-record_value r = record { container = r.container; key = key_bytes r.key; entry = entry_value r.entry }
+record_value r = record { container = r.container; key = r.key.bytes; entry = entry_value r.entry }
 
 -- Container, key and entry keep their limits.
 pub record ValidRecord (r : RecordValue) : Type 0 where

@@ -10,7 +10,6 @@ use Rattle.bytemap.proofs.Find.{find_cons, same_self, below_apart, below_asymmet
 use Rattle.bytemap.proofs.Next.{next_is_found}
 use Rattle.bytemap.proofs.Walk.{beyond_all, beyond_fewer, next_all_above}
 use Rattle.naming.specs.declared.key.Key.{Key}
-use Rattle.naming.specs.Keys.{key_bytes}
 use Rattle.naming.specs.Text.{valid_key}
 use Rattle.naming.proofs.Keys.{valid_key_low, valid_key_high}
 use Rattle.entry.specs.Entries.{EntryValue, LiveValue}
@@ -118,7 +117,7 @@ module _ (d : DirectoryMeaning) (limits : WithinLimits d) (c : ℕ) where
 
 -- a key that the directory wrote to a place, made of its bytes
 pub key_read : (o : Option (List ℕ)) → IfSome o (λ k. valid_key k ≡ true) → (len : ℕ) (place place' bytes : List ℕ) → Some len ≡ option_map length o → place' ≡ place_with o place → bytes ≡ take len place'
-    → (r : Option Key) → MatchOption r (valid_key bytes ≡ false) (λ k. (valid_key bytes ≡ true) × (key_bytes k ≡ bytes)) → option_map key_bytes r ≡ o
+    → (r : Option Key) → MatchOption r (valid_key bytes ≡ false) (λ k. (valid_key bytes ≡ true) × (k.bytes ≡ bytes)) → option_map r.bytes ≡ o
 key_read None valid len place place' bytes l w b r h = absurd (grind arith)
 key_read (Some k) valid len place place' bytes l w b r h = made r h where
   size : len ≡ length k
@@ -127,7 +126,7 @@ key_read (Some k) valid len place place' bytes l w b r h = made r h where
   same : bytes ≡ k
   same = b ∙ ap (take len) w ∙ take_at k (drop (length k) place) len (sym size)
 
-  made : (r : Option Key) → MatchOption r (valid_key bytes ≡ false) (λ k. (valid_key bytes ≡ true) × (key_bytes k ≡ bytes)) → option_map key_bytes r ≡ Some k
+  made : (r : Option Key) → MatchOption r (valid_key bytes ≡ false) (λ k. (valid_key bytes ≡ true) × (k.bytes ≡ bytes)) → option_map r.bytes ≡ Some k
   made None h = absurd (both_ways (valid_key k) (subst (λ y. valid_key y ≡ false) same h) valid)
   made (Some x) h = ap Some (h.1 ∙ same)
 
@@ -138,32 +137,32 @@ key_fits (Some k) valid len l = let size : len ≡ length k = cc in omega (arith
 -- ---- the walk, at the key o, has passed over deleted keys only since the bytes a
 
 abbrev pub Walked : DirectoryMeaning → ℕ → List ℕ → Option Key → Type 0
-Walked d c a o = live_from (contents c d.entries) (option_map key_bytes o) ≡ live_keys (beyond a (contents c d.entries))
+Walked d c a o = live_from (contents c d.entries) (option_map o.bytes) ≡ live_keys (beyond a (contents c d.entries))
 
 module _ (d : DirectoryMeaning) (c : ℕ) (a : List ℕ) where
-  pub walk_begins : WithinLimits d → (r : Option Key) → option_map key_bytes r ≡ key_after d c a → Walked d c a r
+  pub walk_begins : WithinLimits d → (r : Option Key) → option_map r.bytes ≡ key_after d c a → Walked d c a r
   walk_begins limits r e = ap (live_from (contents c d.entries)) e ∙ sym (live_next (contents c d.entries) a (ascending_keys d limits c))
 
   module _ (k : Key) (o : Option Key) (is : o ≡ Some k) (walked : Walked d c a o) where
-    at_key : live_from (contents c d.entries) (Some (key_bytes k)) ≡ live_keys (beyond a (contents c d.entries))
+    at_key : live_from (contents c d.entries) (Some k.bytes) ≡ live_keys (beyond a (contents c d.entries))
     at_key = subst (Walked d c a) is walked
 
-    pub walk_ends : true ≡ is_there (live_of (entry_of d c (key_bytes k))) → keys_from (contents c d.entries) (Some k) ≡ live_keys (beyond a (contents c d.entries))
-    walk_ends t = sym (live_here (contents c d.entries) (key_bytes k) (t ∙ ap (λ e. is_there (live_of e)) (sym (find_contents c d.entries (key_bytes k))))) ∙ at_key
+    pub walk_ends : true ≡ is_there (live_of (entry_of d c k.bytes)) → keys_from (contents c d.entries) (Some k) ≡ live_keys (beyond a (contents c d.entries))
+    walk_ends t = sym (live_here (contents c d.entries) k.bytes (t ∙ ap (λ e. is_there (live_of e)) (sym (find_contents c d.entries k.bytes)))) ∙ at_key
 
-    pub walk_goes_on : WithinLimits d → false ≡ is_there (live_of (entry_of d c (key_bytes k))) → (r : Option Key) → option_map key_bytes r ≡ key_after d c (key_bytes k) → Walked d c a r
+    pub walk_goes_on : WithinLimits d → false ≡ is_there (live_of (entry_of d c k.bytes)) → (r : Option Key) → option_map r.bytes ≡ key_after d c k.bytes → Walked d c a r
     walk_goes_on limits t r e =
         ap (live_from (contents c d.entries)) e
-        ∙ sym (live_next (contents c d.entries) (key_bytes k) (ascending_keys d limits c))
-        ∙ sym (deleted_here (contents c d.entries) (key_bytes k) (t ∙ ap (λ e. is_there (live_of e)) (sym (find_contents c d.entries (key_bytes k)))))
+        ∙ sym (live_next (contents c d.entries) k.bytes (ascending_keys d limits c))
+        ∙ sym (deleted_here (contents c d.entries) k.bytes (t ∙ ap (λ e. is_there (live_of e)) (sym (find_contents c d.entries k.bytes))))
         ∙ at_key
 
-pub walk_shrinks : (d : DirectoryMeaning) → WithinLimits d → (c : ℕ) (k : Key) (o r : Option Key) → o ≡ Some k → option_map key_bytes r ≡ key_after d c (key_bytes k) → ahead (contents c d.entries) (option_map key_bytes r) < ahead (contents c d.entries) (option_map key_bytes o)
+pub walk_shrinks : (d : DirectoryMeaning) → WithinLimits d → (c : ℕ) (k : Key) (o r : Option Key) → o ≡ Some k → option_map r.bytes ≡ key_after d c k.bytes → ahead (contents c d.entries) (option_map r.bytes) < ahead (contents c d.entries) (option_map o.bytes)
 walk_shrinks d limits c k o r is e =
     let m = contents c d.entries in
-    let l = ahead_less m (key_bytes k) (ascending_keys d limits c) in
+    let l = ahead_less m k.bytes (ascending_keys d limits c) in
     let p = ap (λ x. ahead m x) e in
-    let q = ap (λ x. ahead m (option_map key_bytes x)) is in
+    let q = ap (λ x. ahead m (option_map x.bytes)) is in
     omega arith
 
 -- ---- sizes
@@ -193,12 +192,12 @@ few_keys d limits c = omega (arith, live_few (contents c d.entries), contents_fe
 pub rest_begins : (d d' : DirectoryMeaning) (c : ℕ) (r : Option Key) → WithinLimits d → d' ≡ d → keys_from (contents c d.entries) r ≡ live_keys (beyond [] (contents c d.entries)) → keys_from (contents c d'.entries) r ≡ keys_of d' c
 rest_begins d d' c r limits same e = subst (λ x. keys_from (contents c x.entries) r ≡ keys_of x c) (sym same) (e ∙ from_start d limits c)
 
-pub rest_goes_on : (d d' : DirectoryMeaning) (c : ℕ) (k : Key) (a : List ℕ) (o r : Option Key) → d' ≡ d → a ≡ key_bytes k → o ≡ Some k → keys_from (contents c d'.entries) r ≡ live_keys (beyond a (contents c d'.entries))
-    → keys_from (contents c d.entries) o ≡ key_bytes k ∷ keys_from (contents c d.entries) r
+pub rest_goes_on : (d d' : DirectoryMeaning) (c : ℕ) (k : Key) (a : List ℕ) (o r : Option Key) → d' ≡ d → a ≡ k.bytes → o ≡ Some k → keys_from (contents c d'.entries) r ≡ live_keys (beyond a (contents c d'.entries))
+    → keys_from (contents c d.entries) o ≡ k.bytes ∷ keys_from (contents c d.entries) r
 rest_goes_on d d' c k a o r same from is e =
     let m = contents c d.entries in
     let f : keys_from m r ≡ live_keys (beyond a m) = subst (λ x. keys_from (contents c x.entries) r ≡ live_keys (beyond a (contents c x.entries))) same e in
-    ap (keys_from m) is ∙ ap (λ ks. key_bytes k ∷ ks) (sym (f ∙ ap (λ b. live_keys (beyond b m)) from))
+    ap (keys_from m) is ∙ ap (λ ks. k.bytes ∷ ks) (sym (f ∙ ap (λ b. live_keys (beyond b m)) from))
 
 listing_more : (k : List ℕ) (ks : List (List ℕ)) → listing (k ∷ ks) ≡ length k ∷ (k ++ listing ks)
 unfolding listing

@@ -2,7 +2,6 @@
 use Rattle.std.specs.Prelude.{ℕ, cond, List, [], ◌∷◌, ◌++◌, length, drop, Some, None, Option, nat_lt}
 use Rattle.bytemap.specs.Map.{Map, beyond}
 use Rattle.naming.specs.declared.key.Key.{Key}
-use Rattle.naming.specs.Keys.{key_bytes}
 use Rattle.entry.specs.Entries.{EntryValue}
 use Rattle.protocol.specs.declared.answers.Listed.{Listed}
 use Rattle.protocol.specs.Listing.{live_keys, listing}
@@ -21,4 +20,4 @@ listed_over keys buffer = cond (nat_lt (length buffer) (length (listing keys))) 
 -- a key and the live ones beyond it
 abbrev pub keys_from : Map EntryValue → Option Key → List (List ℕ)
 keys_from m None = []
-keys_from m (Some k) = key_bytes k ∷ live_keys (beyond (key_bytes k) m)
+keys_from m (Some k) = k.bytes ∷ live_keys (beyond k.bytes m)

@@ -3,7 +3,6 @@
 ghost use Rattle.std.specs.Prelude.{◌≡◌, ℕ, ◌+◌, ◌≤◌, ◌∷◌, ◌++◌, length, take, drop};
 ghost use Rattle.std.specs.Option.{option_map};
 ghost use Rattle.bytemap.specs.Map.{beyond};
-ghost use Rattle.naming.specs.Keys.{key_bytes};
 ghost use Rattle.directory.specs.Meaning.{contents};
 ghost use Rattle.directory.specs.Calls.{entry_of, key_after};
 ghost use Rattle.protocol.specs.Grounds.{is_there, live_of};
@@ -76,7 +75,7 @@ fn next_live<D: Directory>(directory: &mut D, container: u8, above: &[u8]) -> Op
 
 // The container's smallest key above these bytes, live or deleted.
 fn next_key<D: Directory>(directory: &mut D, container: u8, above: &[u8]) -> Option<Key>
-    ensures value { option_map key_bytes result ≡ key_after (D.meaning directory.old) container above.now }
+    ensures value { option_map (λ k. k.bytes) result ≡ key_after (D.meaning directory.old) container above.now }
     ensures same { D.meaning directory.new ≡ D.meaning directory.old }
 {
     let mut place = [0; 32];
@@ -86,7 +85,7 @@ fn next_key<D: Directory>(directory: &mut D, container: u8, above: &[u8]) -> Opt
 }
 
 fn is_live<D: Directory>(directory: &mut D, container: u8, key: &Key) -> bool
-    ensures value { result ≡ is_there (live_of (entry_of (D.meaning directory.old) container (key_bytes key.now))) }
+    ensures value { result ≡ is_there (live_of (entry_of (D.meaning directory.old) container key.now.bytes)) }
     ensures same { D.meaning directory.new ≡ D.meaning directory.old }
 {
     match directory.look(container, key) {
@@ -97,9 +96,9 @@ fn is_live<D: Directory>(directory: &mut D, container: u8, key: &Key) -> bool
 
 // Writes a key with its length before it, and answers where they end.
 fn put_key(buffer: &mut [u8], at: usize, key: &Key) -> usize
-    requires { at + (1 + length (key_bytes key.now)) ≤ length buffer.old }
-    ensures end { result ≡ at + (1 + length (key_bytes key.now)) }
-    ensures front { take result buffer.new ≡ take at buffer.old ++ (length (key_bytes key.now) ∷ key_bytes key.now) }
+    requires { at + (1 + length key.now.bytes) ≤ length buffer.old }
+    ensures end { result ≡ at + (1 + length key.now.bytes) }
+    ensures front { take result buffer.new ≡ take at buffer.old ++ (length key.now.bytes ∷ key.now.bytes) }
     ensures rest { (n : ℕ) → result ≤ n → drop n buffer.new ≡ drop n buffer.old }
 {
     let middle = put(buffer, at, &[key.len() as u8]);

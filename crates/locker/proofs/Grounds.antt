@@ -3,12 +3,12 @@ use Rattle.std.proofs.Common.{◌≡◌, ℕ, ◌-◌, Bool, true, false, cond, 
 use Rattle.std.proofs.lemmas.Bool.{le-leb}
 use Rattle.refusal.specs.declared.Refusal.{Refusal}
 use Rattle.refusal.specs.declared.Refusal.TheVariants.{UnknownParty, ValueTooLong, UnknownCloud, SlotNotReady, DifferentValue, AlreadyStored, TooFewStored}
-use Rattle.entry.specs.Entries.{EntryValue, lists}
+use Rattle.entry.specs.Entries.{EntryValue}
 use Rattle.cloud.specs.Meaning.{longest_value}
 use Rattle.directory.specs.declared.interface.CommitAnswer.TheVariants.{Full}
 use Rattle.directory.specs.Meaning.{DirectoryMeaning}
 use Rattle.directory.specs.Calls.{commit_answer, commit_after}
-use Rattle.protocol.specs.Clouds.{count, chosen}
+use Rattle.entry.specs.Clouds.{lists, count, chosen}
 use Rattle.protocol.specs.Slots.{SlotValue, SavingValue, idle, saving, fetching, sweeping, is_saving, is_fetching, is_sweeping, of_saving}
 use Rattle.protocol.specs.State.{Setting, State, valid_party, slot_of}
 use Rattle.protocol.specs.Calls.{commit, store, try_cloud, look_again, sweep}

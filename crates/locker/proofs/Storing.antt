@@ -9,7 +9,7 @@ use Rattle.naming.specs.Names.{name_of}
 use Rattle.cloud.specs.Meaning.{CloudMeaning, longest_value}
 use Rattle.cloud.specs.Outcomes.{Done, PutOutcome}
 use Rattle.row.specs.Rows.{Called, numbered}
-use Rattle.protocol.specs.Clouds.{count, with_cloud}
+use Rattle.entry.specs.Clouds.{count, with_cloud}
 use Rattle.protocol.specs.Slots.{SlotValue, SavingValue, idle, saving, is_saving, of_saving}
 use Rattle.protocol.specs.State.{Setting, State, valid_party, slot_of, with_clouds}
 use Rattle.protocol.specs.Calls.{store}

@@ -5,7 +5,7 @@ use Rattle.refusal.specs.declared.Cause.TheVariants.{Silent}
 use Rattle.refusal.specs.declared.Refusal.{Refusal}
 use Rattle.refusal.specs.declared.Refusal.TheVariants.{UnknownParty, UnknownCloud, SlotNotReady, CloudNotListed, BufferTooShort, ValueMismatch}
 use Rattle.naming.specs.Names.{name_of}
-use Rattle.entry.specs.Entries.{lists}
+use Rattle.entry.specs.Clouds.{lists}
 use Rattle.cloud.specs.Meaning.{CloudMeaning}
 use Rattle.cloud.specs.Outcomes.{Length, GetOutcome}
 use Rattle.row.specs.Rows.{Called, If}

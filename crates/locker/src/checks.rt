@@ -3,7 +3,6 @@
 ghost use Rattle.std.specs.Prelude.{◌≡◌, not, length, nat_le, nat_lt};
 ghost use Rattle.refusal.specs.declared.Refusal.TheVariants.{InvalidKey, ValueTooLong, UnknownCloud};
 ghost use Rattle.naming.specs.Text.{valid_key};
-ghost use Rattle.naming.specs.Keys.{key_bytes};
 ghost use Rattle.cloud.specs.Meaning.{longest_value};
 ghost use Rattle.protocol.specs.Steps.{or_refused};
 ghost use Rattle.slots.specs.Values.{answered, when};
@@ -15,7 +14,7 @@ use slots::limits::Limits;
 const LONGEST_VALUE: usize = 1024;
 
 pub(crate) fn valid_key(bytes: &[u8]) -> Result<Key, Refusal>
-    ensures { answered key_bytes result ≡ or_refused (when (not (valid_key bytes.now)) InvalidKey) bytes.now }
+    ensures { answered (λ k. k.bytes) result ≡ or_refused (when (not (valid_key bytes.now)) InvalidKey) bytes.now }
 {
     match Key::new(bytes) {
         Some(key) => Ok(key),

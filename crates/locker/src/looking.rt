@@ -2,9 +2,8 @@
 
 ghost use Rattle.std.specs.Prelude.{◌≡◌, not, nat_le};
 ghost use Rattle.refusal.specs.declared.Refusal.TheVariants.{NoEntry, SequenceExhausted, DirectoryFull};
-ghost use Rattle.naming.specs.Keys.{key_bytes};
 ghost use Rattle.naming.specs.Limits.{greatest_sequence};
-ghost use Rattle.naming.specs.Stamps.{stamp_value, next_stamp};
+ghost use Rattle.naming.specs.Stamps.{next_stamp};
 ghost use Rattle.entry.specs.Entries.{entry_value};
 ghost use Rattle.directory.specs.Calls.{entry_of, stamp_of, commit_answer, commit_after};
 ghost use Rattle.protocol.specs.Grounds.{is_there, live_of, is_full};
@@ -28,7 +27,7 @@ pub(crate) fn next_stamp<D: Directory>(
     key: &Key,
     party: Party,
 ) -> Result<Stamp, Refusal>
-    ensures value { answered stamp_value result ≡ or_refused (when (nat_le greatest_sequence (stamp_of (entry_of (D.meaning directory.old) container (key_bytes key.now))).sequence) SequenceExhausted) (next_stamp (stamp_of (entry_of (D.meaning directory.old) container (key_bytes key.now))) (party_number party)) }
+    ensures value { result ≡ or_refused (when (nat_le greatest_sequence (stamp_of (entry_of (D.meaning directory.old) container key.now.bytes)).sequence) SequenceExhausted) (next_stamp (stamp_of (entry_of (D.meaning directory.old) container key.now.bytes)) (party_number party)) }
     ensures same { D.meaning directory.new ≡ D.meaning directory.old }
 {
     let last = match directory.look(container, key) {
@@ -40,7 +39,7 @@ pub(crate) fn next_stamp<D: Directory>(
 
 /// A fetch of the key as it stands in the directory, if it has a value.
 pub(crate) fn fetch_of<D: Directory>(directory: &mut D, container: u8, key: Key) -> Option<Fetching>
-    ensures value { fetch_slot result ≡ fetch_of container (key_bytes key) (stamp_of (entry_of (D.meaning directory.old) container (key_bytes key))) (live_of (entry_of (D.meaning directory.old) container (key_bytes key))) }
+    ensures value { fetch_slot result ≡ fetch_of container key.bytes (stamp_of (entry_of (D.meaning directory.old) container key.bytes)) (live_of (entry_of (D.meaning directory.old) container key.bytes)) }
     ensures same { D.meaning directory.new ≡ D.meaning directory.old }
 {
     let entry = directory.look(container, &key)?;
@@ -59,7 +58,7 @@ pub(crate) fn live_entry<D: Directory>(
     container: u8,
     key: &Key,
 ) -> Result<Entry, Refusal>
-    ensures value { answered entry_value result ≡ or_refused (when (not (is_there (live_of (entry_of (D.meaning directory.old) container (key_bytes key.now))))) NoEntry) (entry_or_none (entry_of (D.meaning directory.old) container (key_bytes key.now))) }
+    ensures value { answered entry_value result ≡ or_refused (when (not (is_there (live_of (entry_of (D.meaning directory.old) container key.now.bytes)))) NoEntry) (entry_or_none (entry_of (D.meaning directory.old) container key.now.bytes)) }
     ensures same { D.meaning directory.new ≡ D.meaning directory.old }
 {
     let Some(entry) = directory.look(container, key) else {
@@ -73,7 +72,7 @@ pub(crate) fn live_entry<D: Directory>(
 
 /// The stamp of the write after this one.
 pub(crate) fn stamp_after(last: Stamp, party: Party) -> Result<Stamp, Refusal>
-    ensures { answered stamp_value result ≡ or_refused (when (nat_le greatest_sequence (stamp_value last).sequence) SequenceExhausted) (next_stamp (stamp_value last) (party_number party)) }
+    ensures { result ≡ or_refused (when (nat_le greatest_sequence last.sequence) SequenceExhausted) (next_stamp last (party_number party)) }
 {
     match last.next(party.number()) {
         Some(stamp) => Ok(stamp),
@@ -88,8 +87,8 @@ pub(crate) fn commit_entry<D: Directory>(
     key: &Key,
     entry: &Entry,
 ) -> Result<CommitOutcome, Refusal>
-    ensures value { result ≡ or_refused (when (is_full (commit_answer (D.meaning directory.old) container (key_bytes key.now) (entry_value entry.now))) DirectoryFull) (commit_outcome (commit_answer (D.meaning directory.old) container (key_bytes key.now) (entry_value entry.now))) }
-    ensures after { D.meaning directory.new ≡ or_kept (when (is_full (commit_answer (D.meaning directory.old) container (key_bytes key.now) (entry_value entry.now))) DirectoryFull) (D.meaning directory.old) (commit_after (D.meaning directory.old) container (key_bytes key.now) (entry_value entry.now)) }
+    ensures value { result ≡ or_refused (when (is_full (commit_answer (D.meaning directory.old) container key.now.bytes (entry_value entry.now))) DirectoryFull) (commit_outcome (commit_answer (D.meaning directory.old) container key.now.bytes (entry_value entry.now))) }
+    ensures after { D.meaning directory.new ≡ or_kept (when (is_full (commit_answer (D.meaning directory.old) container key.now.bytes (entry_value entry.now))) DirectoryFull) (D.meaning directory.old) (commit_after (D.meaning directory.old) container key.now.bytes (entry_value entry.now)) }
 {
     match directory.commit(container, key, entry) {
         CommitAnswer::Committed => Ok(CommitOutcome::Committed),

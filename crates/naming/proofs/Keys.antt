@@ -1,15 +1,12 @@
 -- Laws of keys.
-use Rattle.std.proofs.Common.{◌≡◌, ℕ, ◌+◌, ◌<◌, ◌≤◌, Bool, true, ◌&&◌, leb, List, [], ◌∷◌, length, get_or, drop, ap, ◌∙◌, arith}
+use Rattle.std.proofs.Common.{◌≡◌, ℕ, ◌<◌, ◌≤◌, Bool, true, false, ◌&&◌, leb, List, [], ◌∷◌, length, sym, refl, ap, ◌∙◌, ⊎_elim, arith}
 use Rattle.std.specs.List.{AllByRecursion as All}
-use Rattle.std.proofs.lemmas.List.{at_drop_more, at_drop_all}
-use Rattle.std.proofs.lemmas.Bool.{and_from, and_parts, le-leb, leb-true}
-use denote.Struct.Record.{values_one}
-use Rattle.naming.specs.contracts.key.Key.{struct, the_propositions}
-use Rattle.naming.specs.declared.key.Key.{Key}
+use Rattle.std.specs.List.{AllPass, list_all}
+use Rattle.std.specs.Prelude.{IsTrue, ◌↔◌}
+use Rattle.std.proofs.lemmas.List.Sums.{list_all-from_AllPass, AllPass-from_list_all}
+use Rattle.std.proofs.lemmas.Bool.{and_from, and_parts, le-leb, leb-true, cases_Bool, false≢true}
 use Rattle.naming.specs.Limits.{longest_key}
 use Rattle.naming.specs.Text.{printable, valid_key, visible}
-use Rattle.naming.specs.Keys.{key_bytes}
-use Rattle.naming.proofs.Padding.{length_held, held_only}
 
 -- ---- what a valid key is
 
@@ -39,29 +36,14 @@ printable_fits (b ∷ bs) h =
     let small : b ≤ 0x7e = leb-true b 0x7e (and_parts (leb 0x21 b) (leb b 0x7e) parts.0).1 in
     (omega arith, printable_fits bs parts.1)
 
--- ---- a test of the bytes one after another
+-- ---- a test of the bytes
 
-pub printable_more : (bs : List ℕ) (i : ℕ) (v : Bool) → i < length bs → visible (get_or bs i 0) ≡ v → printable (drop i bs) ≡ (v && printable (drop (i + 1) bs))
+printable_is_all : (bs : List ℕ) → printable bs ≡ list_all visible bs
 unfolding printable
-printable_more bs i v h is =
-    let next : printable (drop i bs) ≡ (visible (get_or bs i 0) && printable (drop (i + 1) bs)) = at_drop_more printable bs i 0 h in
-    next ∙ ap (λ t. t && printable (drop (i + 1) bs)) is
+printable_is_all [] = refl
+printable_is_all (b ∷ bs) = ap (λ t. visible b && t) (printable_is_all bs)
 
-pub printable_all : (bs : List ℕ) (i : ℕ) → length bs ≤ i → printable (drop i bs) ≡ true
-unfolding printable
-printable_all bs i h = at_drop_all printable bs i h
-
--- ---- every Key is one
-
-pub length_key_bytes : (k : Key) → length (key_bytes k) ≡ k.len
-length_key_bytes k = length_held longest_key k.len k.bytes k.high k.size
-
-pub key_is_valid : (k : Key) → valid_key (key_bytes k) ≡ true
-key_is_valid k =
-    let n = length_key_bytes k in
-    valid_key_from (key_bytes k) (omega (arith, k.low)) (omega (arith, k.high)) k.text
-
--- Keys with equal bytes are equal.
-pub key_only : (a b : Key) → key_bytes a ≡ key_bytes b → a ≡ b
-key_only a b e =
-    values_one struct the_propositions a b (held_only longest_key a.len b.len a.bytes b.bytes a.high b.high a.size b.size a.padded b.padded e)
+pub printable_where_all : (bs : List ℕ) (r : Bool) → (IsTrue r ↔ AllPass visible bs) → r ≡ printable bs
+printable_where_all bs true h = sym (printable_is_all bs ∙ list_all-from_AllPass visible bs (h.0 refl))
+printable_where_all bs false h =
+    ⊎_elim (λ all. absurd (false≢true (h.1 (AllPass-from_list_all visible bs (sym (printable_is_all bs) ∙ all))))) sym (cases_Bool (printable bs))

@@ -1,4 +1,3 @@
-mod Padding
 pub mod Keys
 pub mod Stamps
 pub mod Names

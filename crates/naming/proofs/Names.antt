@@ -3,30 +3,12 @@ use Rattle.std.proofs.Common.{◌≡◌, ℕ, ◌+◌, ◌-◌, ◌*◌, ◌/◌
 use Rattle.std.proofs.lemmas.List.{append_cancel_right, length-append, take_at, drop_at, get_or-append_right}
 use Rattle.std.proofs.lemmas.Bool.{both_ways, le-leb}
 use Rattle.std.proofs.lemmas.Bool.Decides.{nat_tests}
-use denote.Struct.Record.{values_one}
 use Rattle.byte_strings.specs.Order.{below}
 use Rattle.byte_strings.specs.OrderLaws.{below_prefix, below_heads, below_empty}
-use Rattle.naming.specs.contracts.name.Name.{struct, the_propositions}
-use Rattle.naming.specs.declared.name.Name.{Name}
-use Rattle.naming.specs.declared.stamp.Stamp.{Stamp}
-use Rattle.naming.specs.Stamps.{StampValue, ValidStamp, stamp_value, valid_writer, stamp_below}
-use Rattle.naming.specs.Limits.{longest_name, greatest_sequence}
-use Rattle.naming.proofs.Padding.{length_held, held_only}
+use Rattle.naming.specs.Stamps.{StampValue, ValidStamp, valid_writer, stamp_below}
+use Rattle.naming.specs.Limits.{greatest_sequence}
 use Rattle.naming.proofs.Stamps.{same_stamp_value}
-use Rattle.naming.specs.Names.{name_bytes, name_front, stamp_bytes, name_of, NoName, OnlyStamp, NamesAreDistinct, NamesKeepTheOrderOfStamps}
-
--- ---- every Name
-
-pub length_name_bytes : (n : Name) → length (name_bytes n) ≡ n.len
-length_name_bytes n = length_held longest_name n.len n.bytes n.high n.size
-
-pub name_fits : (n : Name) → length (name_bytes n) ≤ longest_name
-name_fits n = let h = length_name_bytes n in omega (arith, n.high)
-
--- Names with equal bytes are equal.
-pub name_only : (a b : Name) → name_bytes a ≡ name_bytes b → a ≡ b
-name_only a b e =
-    values_one struct the_propositions a b (held_only longest_name a.len b.len a.bytes b.bytes a.high b.high a.size b.size a.padded b.padded e)
+use Rattle.naming.specs.Names.{name_front, stamp_bytes, name_of, NoName, OnlyStamp, NamesAreDistinct, NamesKeepTheOrderOfStamps}
 
 pub length_name_front : (c : ℕ) (k : List ℕ) → length (name_front c k) ≡ length k + 2
 unfolding name_front
@@ -141,6 +123,6 @@ short_is_no_name name short c k (s, valid, named) = omega (arith, has_room name 
 
 -- The stamp that is read from the last bytes is the only one that they can be the name of.
 module _ (name : List ℕ) (n w : ℕ) (n_is : n ≡ get_or name (length name - 5) 0 * 16777216 + get_or name (length name - 4) 0 * 65536 + get_or name (length name - 3) 0 * 256 + get_or name (length name - 2) 0) (w_is : w ≡ get_or name (length name - 1) 0) where
-  pub stamp_read : (r : Option Stamp) → MatchOption r (valid_writer w ≡ false) (λ t. (valid_writer w ≡ true) × (stamp_value t ≡ record { sequence = n; writer = w })) → MatchOption r (NoName name) (λ t. OnlyStamp name (stamp_value t))
+  pub stamp_read : (r : Option StampValue) → MatchOption r (valid_writer w ≡ false) (λ t. (valid_writer w ≡ true) × (t ≡ record { sequence = n; writer = w })) → MatchOption r (NoName name) (OnlyStamp name)
   stamp_read None unknown = λ c k is_name. both_ways (valid_writer w) unknown (ap valid_writer w_is ∙ writer_is_valid name c k is_name.0 is_name.1 is_name.2)
   stamp_read (Some t) made = λ c k s valid named. read_stamp name c k s valid named n w n_is w_is ∙ sym made.1

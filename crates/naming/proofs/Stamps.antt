@@ -2,19 +2,7 @@
 use Rattle.std.proofs.Common.{◌≡◌, ℕ, true, false, ◌⊎◌, ap, ◌∙◌, inl, inr, ⊎_elim, arith}
 use Rattle.std.proofs.lemmas.Bool.Decides.{nat_tests}
 use Rattle.std.proofs.lemmas.Bool.{cases_Bool}
-use denote.Struct.Record.{values_one}
-use Rattle.naming.specs.contracts.stamp.Stamp.{struct, the_propositions}
-use Rattle.naming.specs.declared.stamp.Stamp.{Stamp}
-use Rattle.naming.specs.Stamps.{StampValue, ValidStamp, stamp_value, stamp_below, StampsAreOrdered, no_stamp, next_stamp}
-
--- ---- every Stamp is one
-
-pub stamp_is_valid : (s : Stamp) → ValidStamp (stamp_value s)
-stamp_is_valid s = record { sequence_fits = s.fits; writer_known = s.known }
-
--- Stamps of equal values are equal.
-pub stamp_only : (a b : Stamp) → stamp_value a ≡ stamp_value b → a ≡ b
-stamp_only a b e = values_one struct the_propositions a b (ap (λ v. (v.sequence, (v.writer, tt))) e)
+use Rattle.naming.specs.Stamps.{StampValue, stamp_below, StampsAreOrdered, no_stamp, next_stamp}
 
 -- ---- their order
 

@@ -1,6 +1,5 @@
 pub mod Limits
 pub mod Text
-pub mod Keys
+pub mod Addresses
 pub mod Stamps
 pub mod Names
-pub mod NameOrder

@@ -1,12 +1,7 @@
 -- Names: under what a value is stored.
-use Rattle.std.specs.Prelude.{◌≡◌, ℕ, ◌/◌, ◌%◌, ◌^◌, List, [], ◌∷◌, ◌++◌, take}
+use Rattle.std.specs.Prelude.{◌≡◌, ℕ, ◌/◌, ◌%◌, ◌^◌, List, [], ◌∷◌, ◌++◌}
 use Rattle.byte_strings.specs.Order.{below}
-use Rattle.naming.specs.declared.name.Name.{Name}
 use Rattle.naming.specs.Stamps.{StampValue, ValidStamp, stamp_below}
-
--- The bytes of a name.
-abbrev pub name_bytes : Name → List ℕ
-name_bytes n = take n.len n.bytes
 
 -- What the names of a key begin with: the container, the key and the byte 0x7C.
 unfoldable pub name_front : ℕ → List ℕ → List ℕ

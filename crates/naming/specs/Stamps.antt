@@ -2,7 +2,6 @@
 use Rattle.std.specs.Prelude.{ℕ, ◌+◌, ◌≤◌, Bool, cond, ◌&&◌, ◌==◌, nat_le, nat_lt}
 use Rattle.byte_strings.specs.Order.{StrictTotalOrder}
 use Rattle.naming.specs.Limits.{greatest_sequence, greatest_writer}
-use Rattle.naming.specs.declared.stamp.Stamp.{Stamp}
 
 -- What a stamp stands for: the number of the write, and who wrote.
 pub record StampValue : Type 0 where
@@ -12,9 +11,6 @@ pub record StampValue : Type 0 where
 pub record ValidStamp (s : StampValue) : Type 0 where
   pub sequence_fits : s.sequence ≤ greatest_sequence
   pub writer_known : s.writer ≤ greatest_writer
-
-abbrev pub stamp_value : Stamp → StampValue
-stamp_value s = record { sequence = s.sequence; writer = s.writer }
 
 abbrev pub valid_writer : ℕ → Bool
 valid_writer w = nat_le w greatest_writer

@@ -1,7 +1,7 @@
-//! Keys, stamps, and the names under which values are stored.
+//! Keys, their addresses, stamps, and the names under which values are stored.
 #![tactic(auto)]
 
-mod buffer;
+pub mod address;
 pub mod key;
 pub mod name;
 pub mod stamp;

@@ -1,21 +1,27 @@
 //! Names.
 
-ghost use Rattle.std.specs.Prelude.{◌≡◌, ◌-◌, ◌≤◌, length, drop, replicate};
-ghost use Rattle.naming.specs.Limits.{longest_name};
+use byte_strings::fixed::FixedBytes;
+use std::marker::Model;
 
 mod making;
 mod matching;
-pub mod order;
 mod reading;
 
 const LONGEST: usize = 39;
 
-/// A name: up to 39 bytes. Past them the array holds zeros, so that equal bytes make equal names.
+/// A name: up to 39 bytes.
 #[derive(Clone, Copy)]
 pub struct Name {
-    bytes: [u8; LONGEST],
-    len: u8,
-    ghost high: { len ≤ longest_name },
-    ghost size: { length bytes ≡ longest_name },
-    ghost padded: { drop len bytes ≡ replicate (longest_name - len) 0 },
+    bytes: FixedBytes<LONGEST>,
+}
+
+/// Clauses see the bytes.
+impl Model for Name {
+    ghost use Rattle.std.specs.Prelude.{ℕ, List};
+
+    ghost Value = { List ℕ };
+
+    ghost view = { λ n. n.bytes };
+
+    ghost inverse = { λ bs. record { bytes = bs } };
 }

@@ -1,2 +1,2 @@
-pub mod ContainerKeys
-pub mod ContainerKeysLemmas
+pub mod NextKey
+pub mod NextKeyLaws

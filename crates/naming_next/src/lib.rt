@@ -1,5 +1,6 @@
-//! The next name, and the next key of a container, above a bound.
+//! The next name above given bytes, and the next key of a container.
 #![tactic(auto)]
 
-pub mod container_key;
+pub mod addressed;
+pub mod key_bound;
 pub mod next;

@@ -1,7 +1,7 @@
 -- A call with its outcome: what the caller gave, and what came back.
 use Rattle.std.specs.Prelude.{ℕ, List, Result}
 use Rattle.refusal.specs.declared.Refusal.{Refusal}
-use Rattle.naming.specs.Stamps.{StampValue, stamp_value}
+use Rattle.naming.specs.Stamps.{StampValue}
 use Rattle.protocol.specs.declared.answers.CommitOutcome.{CommitOutcome}
 use Rattle.protocol.specs.declared.answers.Found.{Found}
 use Rattle.protocol.specs.declared.answers.Listed.{Listed}
@@ -11,7 +11,7 @@ pub record FoundValue : Type 0 where
   pub size : ℕ
 
 abbrev pub found_value : Found → FoundValue
-found_value f = record { stamp = stamp_value f.stamp; size = f.size }
+found_value f = record { stamp = f.stamp; size = f.size }
 
 -- A buffer is told before the call and after it.
 pub data Event : Type 0 where

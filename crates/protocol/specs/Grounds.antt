@@ -1,17 +1,16 @@
 -- The grounds on which a call is refused, as one table in the order in which they are checked. A ground that does not
 -- concern a call never holds of it. What a cloud answers comes after all of these.
-use Rattle.std.specs.Prelude.{ℕ, Bool, true, false, cond, not, ◌&&◌, ◌||◌, ltb, leb, List, [], ◌∷◌, ◌++◌, length, Some, None, Option, ◌==◌, nat_le, nat_lt}
+use Rattle.std.specs.Prelude.{ℕ, Bool, true, false, cond, not, ◌&&◌, ◌||◌, ltb, leb, List, [], ◌∷◌, ◌++◌, length, Some, None, Ok, Err, Option, ◌==◌, nat_le, nat_lt}
 use Rattle.std.specs.Str.{bytes_eq}
 use Rattle.refusal.specs.declared.Refusal.{Refusal}
 use Rattle.refusal.specs.declared.Refusal.TheVariants.{UnknownParty, InvalidKey, ValueTooLong, UnknownCloud, SlotBusy, SlotNotReady, DifferentValue, AlreadyStored, TooFewStored, CloudNotListed, NoEntry, SequenceExhausted, DirectoryFull, BufferTooShort}
 use Rattle.naming.specs.Text.{valid_key}
 use Rattle.naming.specs.Limits.{greatest_sequence}
-use Rattle.entry.specs.Entries.{EntryValue, LiveValue, lists}
-use Rattle.directory.specs.declared.interface.CommitAnswer.{CommitAnswer}
-use Rattle.directory.specs.declared.interface.CommitAnswer.TheVariants.{Committed, Older, Full}
-use Rattle.directory.specs.Calls.{entry_of, stamp_of, commit_answer}
+use Rattle.entry.specs.Entries.{EntryValue, LiveValue}
+use Rattle.directory.specs.declared.interface.CommitError.TheVariants.{Older, Full}
+use Rattle.directory.specs.Calls.{Answer, entry_of, stamp_of, commit_answer}
 use Rattle.cloud.specs.Meaning.{longest_value}
-use Rattle.protocol.specs.Clouds.{count}
+use Rattle.entry.specs.Clouds.{lists, count}
 use Rattle.protocol.specs.Slots.{SavingValue, FetchingValue, is_idle, is_saving, is_fetching, is_sweeping, of_saving, of_fetching}
 use Rattle.protocol.specs.State.{Setting, State, valid_party, slot_of}
 use Rattle.protocol.specs.Listing.{keys_of, listing}
@@ -141,10 +140,10 @@ has_no_next (list c b) s = false
 abbrev pub saved_entry : SavingValue → EntryValue
 saved_entry x = record { stamp = x.stamp; live = Some (record { clouds = x.stored; size = x.size; digest = x.digest }) }
 
-abbrev pub is_full : CommitAnswer → Bool
-is_full Committed = false
-is_full Older = false
-is_full Full = true
+abbrev pub is_full : Answer → Bool
+is_full (Ok t) = false
+is_full (Err Older) = false
+is_full (Err Full) = true
 
 -- ---- what there is room for
 

@@ -1,4 +1,3 @@
-pub mod Clouds
 pub mod Slots
 pub mod State
 pub mod Listing

@@ -12,13 +12,12 @@ use Rattle.entry.specs.Entries.{EntryValue, LiveValue}
 use Rattle.cloud.specs.Meaning.{CloudMeaning}
 use Rattle.cloud.specs.Outcomes.{Done, Length, NextLength, over, PutOutcome, GetOutcome, DropOutcome, NextOutcome}
 use Rattle.row.specs.Rows.{Called}
-use Rattle.directory.specs.declared.interface.CommitAnswer.{CommitAnswer}
-use Rattle.directory.specs.declared.interface.CommitAnswer.TheVariants.{Committed, Older, Full}
-use Rattle.directory.specs.Calls.{entry_of, stamp_of, commit_answer, commit_after}
+use Rattle.directory.specs.declared.interface.CommitError.TheVariants.{Older, Full}
+use Rattle.directory.specs.Calls.{Answer, entry_of, stamp_of, commit_answer, commit_after}
 use Rattle.protocol.specs.declared.answers.CommitOutcome.{CommitOutcome}
-use Rattle.protocol.specs.declared.answers.CommitOutcome.TheVariants.{Committed as SaveCommitted, Passed}
+use Rattle.protocol.specs.declared.answers.CommitOutcome.TheVariants.{Committed, Passed}
 use Rattle.protocol.specs.declared.answers.Listed.{Listed}
-use Rattle.protocol.specs.Clouds.{with_cloud, count}
+use Rattle.entry.specs.Clouds.{with_cloud, count}
 use Rattle.protocol.specs.Slots.{SlotValue, SavingValue, FetchingValue, SweepingValue, idle, saving, fetching, sweeping}
 use Rattle.protocol.specs.State.{Setting, State, slot_of, with_slot, with_clouds, with_directory}
 use Rattle.protocol.specs.Listing.{keys_of, listing}
@@ -106,10 +105,10 @@ pub record Stores (s : State) (p i : ℕ) (v : List ℕ) (x : SavingValue) (r : 
   pub answers : r ≡ store_answer x i said
   pub leaves : s' ≡ with_clouds (after_store s p x i said) s'.clouds
 
-abbrev pub commit_outcome : CommitAnswer → CommitOutcome
-commit_outcome Committed = SaveCommitted
-commit_outcome Older = Passed
-commit_outcome Full = Passed
+abbrev pub commit_outcome : Answer → CommitOutcome
+commit_outcome (Ok t) = Committed
+commit_outcome (Err Older) = Passed
+commit_outcome (Err Full) = Passed
 
 abbrev pub after_commit : State → ℕ → SavingValue → State
 after_commit s p x = with_slot (with_directory s (commit_after s.directory x.container x.key (saved_entry x))) p idle

@@ -2,8 +2,7 @@
 use Rattle.std.specs.Prelude.{ℕ, Bool, cond, not, ◌||◌, Some, None, Option, nat_le, nat_lt}
 use Rattle.refusal.specs.declared.Refusal.{Refusal}
 use Rattle.refusal.specs.declared.Refusal.TheVariants.{SlotBusy, SlotNotReady, DifferentValue, AlreadyStored, TooFewStored, CloudNotListed}
-use Rattle.entry.specs.Entries.{lists}
-use Rattle.protocol.specs.Clouds.{count}
+use Rattle.entry.specs.Clouds.{lists, count}
 use Rattle.protocol.specs.Slots.{SlotValue, is_idle, is_saving, is_fetching, is_sweeping, of_saving, of_fetching}
 use Rattle.slots.specs.declared.slot.Asked.{Asked}
 use Rattle.slots.specs.declared.slot.Asked.TheVariants.{BeginSave, Store, Commit, Delete, BeginFetch, Try, LookAgain, BeginSweep, Sweep, Leave}

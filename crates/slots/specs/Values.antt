@@ -1,8 +1,7 @@
 -- What the slots and their parts stand for.
 use Rattle.std.specs.Prelude.{ℕ, ◌+◌, ◌*◌, Bool, true, false, ◌&&◌, List, map, Some, None, Ok, Err, Option, Result, nat_le}
 use Rattle.refusal.specs.declared.Refusal.{Refusal}
-use Rattle.naming.specs.Keys.{key_bytes}
-use Rattle.naming.specs.Stamps.{StampValue, stamp_value}
+use Rattle.naming.specs.Stamps.{StampValue}
 use Rattle.digest.specs.Value.{digest_bytes}
 use Rattle.entry.specs.Entries.{live_value, stamp_taken}
 use Rattle.protocol.specs.Slots.{SlotValue, SavingValue, FetchingValue, SweepingValue, idle, saving, fetching, sweeping}
@@ -51,13 +50,13 @@ can_begin stamp size = stamp_taken stamp && nat_le size 1024
 
 abbrev pub saving_value : SavingStruct → SavingValue
 saving_value x =
-    record { container = x.container; key = key_bytes x.key; stamp = stamp_value x.stamp; size = x.size; digest = digest_bytes x.digest; stored = set_bits x.stored }
+    record { container = x.container; key = x.key.bytes; stamp = x.stamp; size = x.size; digest = digest_bytes x.digest; stored = set_bits x.stored }
 
 abbrev pub fetching_value : FetchingStruct → FetchingValue
-fetching_value x = record { container = x.container; key = key_bytes x.key; stamp = stamp_value x.stamp; live = live_value x.live }
+fetching_value x = record { container = x.container; key = x.key.bytes; stamp = x.stamp; live = live_value x.live }
 
 abbrev pub sweeping_value : SweepingStruct → SweepingValue
-sweeping_value x = record { container = x.container; key = key_bytes x.key; stamp = stamp_value x.stamp }
+sweeping_value x = record { container = x.container; key = x.key.bytes; stamp = x.stamp }
 
 abbrev pub doing_value : Doing → SlotValue
 doing_value Idle = idle

@@ -1,7 +1,6 @@
 //! The slots of the sixteen parties: what each is doing, what may be asked of it, and how it moves on.
 #![tactic(auto)]
 
-mod clouds;
 pub mod limits;
 pub mod party;
 pub mod saving;

@@ -4,7 +4,7 @@ use Rattle.std.proofs.lemmas.Bool.{cases_lt}
 use Rattle.refusal.specs.declared.Cause.{Cause}
 use Rattle.refusal.specs.declared.Cause.TheVariants.{Silent, BadListing}
 use Rattle.naming.specs.declared.name.Name.{Name}
-use Rattle.naming.specs.Names.{name_bytes, IsNameOf}
+use Rattle.naming.specs.Names.{IsNameOf}
 use Rattle.cloud.specs.Meaning.{CloudMeaning, longest_name}
 use Rattle.cloud.specs.Outcomes.{Done, NextLength, NextOutcome}
 use Rattle.byte_strings.specs.Order.{below}
@@ -21,7 +21,7 @@ length_fits {ms} {ms'} {i} c =
 
 module _ {X : Type 0} (nexts : X → List ℕ → List ℕ → NextLength → List ℕ → X → Type 0) {a b : X} {above place place' : List ℕ} {o : Option ℕ} {len : ℕ} where
   pub name_read : nexts a above place (Ok o) place' b → IfOk {E = Cause} (Ok o) (λ o. IfSome o (λ n. n ≤ longest_name)) → o ≡ Some len → (last : List ℕ) → above ≡ last → (bytes : List ℕ) → bytes ≡ take len place'
-      → (r : Option Name) → MatchOption r (longest_name < length bytes) (λ n. (length bytes ≤ longest_name) × (name_bytes n ≡ bytes)) → Asked nexts a last (Ok r) b
+      → (r : Option Name) → MatchOption r (longest_name < length bytes) (λ n. (length bytes ≤ longest_name) × (n ≡ bytes)) → Asked nexts a last (Ok r) b
   name_read asked fits is last from bytes e None long =
       let f : len ≤ longest_name = rw is at fits in
       let l : length bytes ≤ len = rw (e, length-take) (omega arith) in
@@ -35,7 +35,7 @@ one_more n = omega arith
 -- ---- the answer as a link of the chain
 
 module _ {X : Type 0} (nexts : X → List ℕ → List ℕ → NextLength → List ℕ → X → Type 0) {b c : X} {last : List ℕ} where
-  pub given : {o : Option Name} {n : Name} → Asked nexts b last (Ok o) c → o ≡ Some n → Given nexts b last (name_bytes n) c
+  pub given : {o : Option Name} {n : Name} → Asked nexts b last (Ok o) c → o ≡ Some n → Given nexts b last (n) c
   given asked is = subst (λ (o : Option Name). Asked nexts b last (Ok o) c) is asked
 
   module _ (drops : X → List ℕ → Done → X → Type 0) (x : SweepingValue) {seen : ℕ} where

@@ -3,7 +3,6 @@ use Rattle.std.specs.Prelude.{◌≡◌, ℕ, List, take, Some, None, Ok, Err, O
 use Rattle.refusal.specs.declared.Cause.{Cause}
 use Rattle.refusal.specs.declared.CloudFault.{CloudFault}
 use Rattle.naming.specs.declared.name.Name.{Name}
-use Rattle.naming.specs.Names.{name_bytes}
 use Rattle.cloud.specs.Outcomes.{NextLength}
 
 -- what a cloud said, without its number
@@ -27,5 +26,5 @@ module _ {X : Type 0} (nexts : X → List ℕ → List ℕ → NextLength → Li
   -- the answer, with the name out of its place
   abbrev pub Asked : Result (Option Name) Cause → X → Type 0
   Asked (Ok None) b = Exchange (Ok None) b
-  Asked (Ok (Some n)) b = Given (name_bytes n) b
+  Asked (Ok (Some n)) b = Given (n) b
   Asked (Err e) b = Exchange (Err e) b

@@ -1,9 +1,6 @@
 //! The sweep of one cloud. It may be unsound, so each name that it gives is looked at.
 
 ghost use Rattle.std.specs.Prelude.{◌≡◌};
-ghost use Rattle.naming.specs.Keys.{key_bytes};
-ghost use Rattle.naming.specs.Names.{name_bytes};
-ghost use Rattle.naming.specs.Stamps.{stamp_value};
 ghost use Rattle.byte_strings.specs.Order.{below};
 ghost use Rattle.row.specs.Rows.{numbered};
 ghost use Rattle.protocol.specs.Steps.{next_at, drop_at};
@@ -30,8 +27,8 @@ pub fn sweep<R: Row>(
     key: &Key,
     stamp: &Stamp,
 ) -> Result<usize, CloudFault>
-    ensures chain { Swept (λ a above place s place' b. R.Row.nexts a number above place s place' b) (λ a name s b. R.Row.drops a number name s b) (record { container = container; key = key_bytes key.now; stamp = stamp_value stamp.now }) row.old row.new (said result) }
-    ensures meaning { Swept (next_at number) (drop_at number) (record { container = container; key = key_bytes key.now; stamp = stamp_value stamp.now }) (R.Row.clouds row.old) (R.Row.clouds row.new) (said result) }
+    ensures chain { Swept (λ a above place s place' b. R.Row.nexts a number above place s place' b) (λ a name s b. R.Row.drops a number name s b) (record { container = container; key = key.now.bytes; stamp = stamp.now }) row.old row.new (said result) }
+    ensures meaning { Swept (next_at number) (drop_at number) (record { container = container; key = key.now.bytes; stamp = stamp.now }) (R.Row.clouds row.old) (R.Row.clouds row.new) (said result) }
     ensures fault { result ≡ numbered number (said result) }
 {
     at_cloud(number, sweep_cloud(row, number, container, key, stamp))
@@ -44,7 +41,7 @@ fn sweep_cloud<R: Row>(
     key: &Key,
     stamp: &Stamp,
 ) -> Result<usize, Cause>
-    ensures { Swept (λ a above place s place' b. R.Row.nexts a number above place s place' b) (λ a name s b. R.Row.drops a number name s b) (record { container = container; key = key_bytes key.now; stamp = stamp_value stamp.now }) row.old row.new result }
+    ensures { Swept (λ a above place s place' b. R.Row.nexts a number above place s place' b) (λ a name s b. R.Row.drops a number name s b) (record { container = container; key = key.now.bytes; stamp = stamp.now }) row.old row.new result }
 {
     let bound = Name::new(container, key, stamp);
     let mut last = Name::new(container, key, &Stamp::none());
@@ -72,7 +69,7 @@ fn sweep_cloud<R: Row>(
 
 // The name that the cloud gives above the last one.
 fn next_name<R: Row>(row: &mut R, number: usize, last: &Name) -> Result<Option<Name>, Cause>
-    ensures { Asked (λ a above place s place' b. R.Row.nexts a number above place s place' b) row.old (name_bytes last.now) result row.new }
+    ensures { Asked (λ a above place s place' b. R.Row.nexts a number above place s place' b) row.old (last.now) result row.new }
 {
     let mut place = [0; 39];
     let Some(len) = row.next(number, last.as_bytes(), &mut place)? else {
@@ -83,13 +80,13 @@ fn next_name<R: Row>(row: &mut R, number: usize, last: &Name) -> Result<Option<N
 }
 
 fn drop_name<R: Row>(row: &mut R, number: usize, name: &Name) -> Result<(), Cause>
-    ensures { R.Row.drops row.old number (name_bytes name.now) result row.new }
+    ensures { R.Row.drops row.old number (name.now) result row.new }
 {
     row.drop(number, name.as_bytes())
 }
 
 fn is_before(a: &Name, b: &Name) -> bool
-    ensures { result ≡ below (name_bytes a.now) (name_bytes b.now) }
+    ensures { result ≡ below (a.now) (b.now) }
 {
     is_below(a.as_bytes(), b.as_bytes())
 }

@@ -3,9 +3,7 @@
 
 ghost use Rattle.std.specs.Prelude.{◌≡◌, length, take, replicate, Err, nat_lt};
 ghost use Rattle.refusal.specs.declared.Refusal.TheVariants.{BufferTooShort};
-ghost use Rattle.naming.specs.Keys.{key_bytes};
 ghost use Rattle.naming.specs.Names.{name_of};
-ghost use Rattle.naming.specs.Stamps.{stamp_value};
 ghost use Rattle.entry.specs.Entries.{live_value};
 ghost use Rattle.row.specs.Rows.{If, numbered};
 ghost use Rattle.protocol.specs.Steps.{is_saved_value};
@@ -49,7 +47,7 @@ fn ask<R: Row, K: DigestKind>(
     fetching: &Fetching,
     part: &mut [u8],
 ) -> Result<usize, Refusal>
-    ensures judged { Judged (λ said got. R.gets row.old cloud (name_of fetching.now.container (key_bytes fetching.now.key) (stamp_value fetching.now.stamp)) part.old said got row.new) K.digested cloud (fetching_value fetching.now) part.new result }
+    ensures judged { Judged (λ said got. R.gets row.old cloud (name_of fetching.now.container fetching.now.key.bytes fetching.now.stamp) part.old said got row.new) K.digested cloud (fetching_value fetching.now) part.new result }
     ensures len { length part.new ≡ length part.old }
 {
     let name = Name::new(fetching.container, &fetching.key, &fetching.stamp);
@@ -76,7 +74,7 @@ fn ask_or_clear<R: Row, K: DigestKind>(
     part: &mut [u8],
 ) -> Result<usize, Refusal>
     requires { length part.old ≡ (fetching_value fetching.now).live.size }
-    ensures { Kept (λ said got. R.gets row.old cloud (name_of fetching.now.container (key_bytes fetching.now.key) (stamp_value fetching.now.stamp)) part.old said got row.new) K.digested cloud (fetching_value fetching.now) part.new result }
+    ensures { Kept (λ said got. R.gets row.old cloud (name_of fetching.now.container fetching.now.key.bytes fetching.now.stamp) part.old said got row.new) K.digested cloud (fetching_value fetching.now) part.new result }
 {
     let answer = ask::<R, K>(row, cloud, fetching, part);
     if answer.is_err() {
@@ -93,7 +91,7 @@ pub fn try_at<R: Row, K: DigestKind>(
     fetching: &Fetching,
     buffer: &mut [u8],
 ) -> Result<usize, Refusal>
-    ensures { If (nat_lt (length buffer.old) (fetching_value fetching.now).live.size) ((result ≡ Err BufferTooShort) × ((buffer.new ≡ buffer.old) × (row.new ≡ row.old))) (Tried (λ said got. R.gets row.old cloud (name_of fetching.now.container (key_bytes fetching.now.key) (stamp_value fetching.now.stamp)) (take (fetching_value fetching.now).live.size buffer.old) said got row.new) K.digested cloud (fetching_value fetching.now) buffer.old buffer.new result) }
+    ensures { If (nat_lt (length buffer.old) (fetching_value fetching.now).live.size) ((result ≡ Err BufferTooShort) × ((buffer.new ≡ buffer.old) × (row.new ≡ row.old))) (Tried (λ said got. R.gets row.old cloud (name_of fetching.now.container fetching.now.key.bytes fetching.now.stamp) (take (fetching_value fetching.now).live.size buffer.old) said got row.new) K.digested cloud (fetching_value fetching.now) buffer.old buffer.new result) }
 {
     let size = fetching.live.size();
     if buffer.len() < size {

@@ -1,7 +1,6 @@
 //! Making an entry with its key, reading it, and telling whose it is.
 
 ghost use Rattle.std.specs.Prelude.{◌≡◌, Decides};
-ghost use Rattle.naming.specs.Keys.{key_bytes};
 ghost use Rattle.entry.specs.Entries.{entry_value};
 ghost use Rattle.directory.specs.Meaning.{address};
 ghost use Rattle.directory_table.specs.Entries.{container_of, key_address, key_of, pair, value_of};
@@ -13,7 +12,7 @@ use naming_next::container_key::ContainerKey;
 
 impl KeyedEntry {
     pub(crate) fn new(container: u8, key: &Key, entry: &Entry) -> KeyedEntry
-        ensures { pair result ≡ (address container (key_bytes key.now), entry_value entry.now) }
+        ensures { pair result ≡ (address container key.now.bytes, entry_value entry.now) }
     {
         let at = ContainerKey {
             container,
@@ -31,7 +30,7 @@ impl KeyedEntry {
 
     /// The key.
     pub fn key(&self) -> Key
-        ensures { key_bytes result ≡ key_of self.now }
+        ensures { result.bytes ≡ key_of self.now }
     {
         self.at.key
     }
@@ -45,7 +44,7 @@ impl KeyedEntry {
 
     // Whether it is the entry of this key.
     pub(crate) fn is_of(&self, container: u8, key: &Key) -> bool
-        ensures { Decides result (key_address self.now ≡ address container (key_bytes key.now)) }
+        ensures { Decides result (key_address self.now ≡ address container key.now.bytes) }
     {
         self.container() == container && self.key().is_same(key)
     }

@@ -1,7 +1,6 @@
 //! Making records, and reading their parts.
 
 ghost use Rattle.std.specs.Prelude.{◌≡◌};
-ghost use Rattle.naming.specs.Keys.{key_bytes};
 ghost use Rattle.entry.specs.Entries.{entry_value};
 ghost use Rattle.journal_record.specs.Records.{record_value, ValidRecord};
 
@@ -12,7 +11,7 @@ use naming::key::Key;
 impl Record {
     /// The record of this entry.
     pub fn new(container: u8, key: Key, entry: Entry) -> Record
-        ensures value { record_value result ≡ record { container = container; key = key_bytes key; entry = entry_value entry } }
+        ensures value { record_value result ≡ record { container = container; key = key.bytes; entry = entry_value entry } }
         ensures valid { ValidRecord (record_value result) }
     {
         Record {
@@ -31,7 +30,7 @@ impl Record {
 
     /// The key that was written.
     pub fn key(&self) -> Key
-        ensures { key_bytes result ≡ (record_value self.now).key }
+        ensures { result.bytes ≡ (record_value self.now).key }
     {
         self.key
     }

@@ -1,7 +1,6 @@
 //! Sweeping: beginning, and sweeping a cloud.
 
 ghost use Rattle.std.specs.Prelude.{◌≡◌, ◌-◌, slice_index_or};
-ghost use Rattle.naming.specs.Stamps.{stamp_value};
 ghost use Rattle.protocol.specs.Slots.{idle};
 ghost use Rattle.protocol.specs.Calls.{sweep};
 ghost use Rattle.protocol.specs.Grounds.{first_ground};
@@ -25,7 +24,7 @@ use sweeping::sweep::sweep;
 impl<D: Directory, R: Row, K: DigestKind> Locker<D, R, K> {
     /// Begins to sweep the names of the key that are below its entry's stamp, and answers that stamp.
     pub fn begin_sweep(&mut self, party: u8, container: u8, key: &[u8]) -> Result<Stamp, Refusal>
-        ensures step { Step (setting_of K.digested self.old.limits) (state_of (D.meaning self.old.directory) (R.clouds self.old.row) self.old.slots) (began_sweep party container key.now (answered stamp_value result)) (state_of (D.meaning self.new.directory) (R.clouds self.new.row) self.new.slots) }
+        ensures step { Step (setting_of K.digested self.old.limits) (state_of (D.meaning self.old.directory) (R.clouds self.old.row) self.old.slots) (began_sweep party container key.now result) (state_of (D.meaning self.new.directory) (R.clouds self.new.row) self.new.slots) }
         ensures row { self.new.row ≡ self.old.row }
         ensures limits { self.new.limits ≡ self.old.limits }
     {

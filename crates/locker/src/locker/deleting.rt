@@ -1,7 +1,6 @@
 //! Deleting, and leaving what is under way.
 
 ghost use Rattle.std.specs.Prelude.{◌≡◌};
-ghost use Rattle.naming.specs.Stamps.{stamp_value};
 ghost use Rattle.protocol.specs.Events.{deleted, left};
 ghost use Rattle.protocol.specs.Steps.{Step};
 ghost use Rattle.slots.specs.Values.{answered, setting_of};
@@ -22,7 +21,7 @@ use slots::slot::{Asked, Doing};
 impl<D: Directory, R: Row, K: DigestKind> Locker<D, R, K> {
     /// Deletes the key, which must have a value, and answers the stamp of that.
     pub fn delete(&mut self, party: u8, container: u8, key: &[u8]) -> Result<Stamp, Refusal>
-        ensures step { Step (setting_of K.digested self.old.limits) (state_of (D.meaning self.old.directory) (R.clouds self.old.row) self.old.slots) (deleted party container key.now (answered stamp_value result)) (state_of (D.meaning self.new.directory) (R.clouds self.new.row) self.new.slots) }
+        ensures step { Step (setting_of K.digested self.old.limits) (state_of (D.meaning self.old.directory) (R.clouds self.old.row) self.old.slots) (deleted party container key.now result) (state_of (D.meaning self.new.directory) (R.clouds self.new.row) self.new.slots) }
         ensures row { self.new.row ≡ self.old.row }
         ensures limits { self.new.limits ≡ self.old.limits }
     {

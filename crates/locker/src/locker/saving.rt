@@ -2,7 +2,6 @@
 
 ghost use Rattle.std.specs.Prelude.{◌≡◌, ◌-◌, slice_index_or};
 ghost use Rattle.naming.specs.Names.{name_of};
-ghost use Rattle.naming.specs.Stamps.{stamp_value};
 ghost use Rattle.protocol.specs.Slots.{idle};
 ghost use Rattle.protocol.specs.Calls.{store};
 ghost use Rattle.protocol.specs.Grounds.{first_ground};
@@ -34,7 +33,7 @@ impl<D: Directory, R: Row, K: DigestKind> Locker<D, R, K> {
         key: &[u8],
         value: &[u8],
     ) -> Result<Stamp, Refusal>
-        ensures step { Step (setting_of K.digested self.old.limits) (state_of (D.meaning self.old.directory) (R.clouds self.old.row) self.old.slots) (began_save party container key.now value.now (answered stamp_value result)) (state_of (D.meaning self.new.directory) (R.clouds self.new.row) self.new.slots) }
+        ensures step { Step (setting_of K.digested self.old.limits) (state_of (D.meaning self.old.directory) (R.clouds self.old.row) self.old.slots) (began_save party container key.now value.now result) (state_of (D.meaning self.new.directory) (R.clouds self.new.row) self.new.slots) }
         ensures row { self.new.row ≡ self.old.row }
         ensures limits { self.new.limits ≡ self.old.limits }
     {

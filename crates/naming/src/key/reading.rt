@@ -1,30 +1,28 @@
 //! Reading a key.
 
 ghost use Rattle.std.specs.Prelude.{◌≡◌, length, Decides};
-ghost use Rattle.naming.specs.Keys.{key_bytes};
 
 use super::Key;
-use byte_strings::compare::is_same;
 
 impl Key {
     /// How many bytes there are.
     pub fn len(&self) -> usize
-        ensures { result ≡ length (key_bytes self.now) }
+        ensures { result ≡ length self.now.bytes }
     {
-        self.len as usize
+        self.bytes.len()
     }
 
     /// The bytes of the key.
     pub fn as_bytes(&self) -> &[u8]
-        ensures { result.now ≡ key_bytes self.now }
+        ensures { result.now ≡ self.now.bytes }
     {
-        &self.bytes[0..self.len()]
+        self.bytes.as_slice()
     }
 
     /// Whether both have the same bytes.
     pub fn is_same(&self, other: &Key) -> bool
-        ensures { Decides result (key_bytes self.now ≡ key_bytes other.now) }
+        ensures { Decides result (self.now.bytes ≡ other.now.bytes) }
     {
-        is_same(self.as_bytes(), other.as_bytes())
+        self.as_bytes() == other.as_bytes()
     }
 }

@@ -1,30 +1,27 @@
 //! Whether bytes are a name of a key.
 
-ghost use Rattle.std.specs.Prelude.{◌≡◌, Decides, MatchOption};
-ghost use Rattle.naming.specs.Keys.{key_bytes};
-ghost use Rattle.naming.specs.Stamps.{stamp_value};
+ghost use Rattle.std.specs.Prelude.{Decides, MatchOption};
 ghost use Rattle.naming.specs.Names.{IsNameOf, NoName, OnlyStamp};
 
 use super::Name;
-use crate::key::Key;
+use crate::address::Address;
 use crate::stamp::Stamp;
-use byte_strings::compare::is_same;
 
 impl Name {
     /// Whether these bytes are the name of some stamp of exactly this container and key.
-    pub fn is_of(name: &[u8], container: u8, key: &Key) -> bool
-        ensures { Decides result (IsNameOf name.now container (key_bytes key.now)) }
+    pub fn is_of(name: &[u8], at: &Address) -> bool
+        ensures { Decides result (IsNameOf name.now at.now.container at.now.key.bytes) }
     {
         let Some(stamp) = stamp_of(name) else {
             return false;
         };
-        is_same(name, Name::new(container, key, &stamp).as_bytes())
+        name == Name::new(at, &stamp).as_bytes()
     }
 }
 
 // The stamp that the bytes end in. If they are a name, they are the name of this stamp.
 fn stamp_of(name: &[u8]) -> Option<Stamp>
-    ensures { MatchOption result (NoName name.now) (λ t. OnlyStamp name.now (stamp_value t)) }
+    ensures { MatchOption result (NoName name.now) (OnlyStamp name.now) }
 {
     let [.., a, b, c, d, writer] = name else {
         return None;

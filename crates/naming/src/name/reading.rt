@@ -1,22 +1,34 @@
 //! Reading a name.
 
-ghost use Rattle.std.specs.Prelude.{◌≡◌, length};
-ghost use Rattle.naming.specs.Names.{name_bytes};
+ghost use Rattle.std.specs.Prelude.{◌≡◌, ◌≤◌, length};
+ghost use Rattle.naming.specs.Limits.{longest_name};
 
 use super::Name;
+use byte_strings::named::Named;
 
 impl Name {
     /// How many bytes there are.
     pub fn len(&self) -> usize
-        ensures { result ≡ length (name_bytes self.now) }
+        ensures value { result ≡ length self.now }
+        ensures short { length self.now ≤ longest_name }
     {
-        self.len as usize
+        self.bytes.len()
     }
 
     /// The bytes of the name.
     pub fn as_bytes(&self) -> &[u8]
-        ensures { result.now ≡ name_bytes self.now }
+        ensures value { result.now ≡ self.now }
+        ensures short { length self.now ≤ longest_name }
     {
-        &self.bytes[0..self.len()]
+        self.bytes.as_slice()
+    }
+}
+
+/// Names are in the order of their bytes.
+impl Named for Name {
+    ghost name = { λ n. n };
+
+    fn name(&self) -> &[u8] {
+        self.as_bytes()
     }
 }

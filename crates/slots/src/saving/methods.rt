@@ -1,11 +1,9 @@
 //! Beginning a save, going on with it, and the entry that it comes to.
 
 ghost use Rattle.std.specs.Prelude.{◌≡◌, true, false, ◌||◌, ltb, length, if◌then◌else◌, MatchOption, nat_le, nat_lt};
-ghost use Rattle.naming.specs.Keys.{key_bytes};
-ghost use Rattle.naming.specs.Names.{name_bytes, name_of};
-ghost use Rattle.naming.specs.Stamps.{stamp_value};
-ghost use Rattle.entry.specs.Entries.{entry_value, lists};
-ghost use Rattle.protocol.specs.Clouds.{count};
+ghost use Rattle.naming.specs.Names.{name_of};
+ghost use Rattle.entry.specs.Entries.{entry_value};
+ghost use Rattle.entry.specs.Clouds.{lists, count};
 ghost use Rattle.protocol.specs.Grounds.{is_begun_value, saved_entry};
 ghost use Rattle.protocol.specs.Steps.{acknowledged};
 ghost use Rattle.slots.specs.Values.{saving_value, can_begin, digesting};
@@ -31,7 +29,7 @@ impl Saving {
         stamp: Stamp,
         value: &[u8],
     ) -> Option<Saving>
-        ensures { MatchOption result (can_begin (stamp_value stamp) (length value.now) ≡ false) (λ x. (can_begin (stamp_value stamp) (length value.now) ≡ true) × (saving_value x ≡ record { container = container; key = key_bytes key; stamp = stamp_value stamp; size = length value.now; digest = K.digested value.now; stored = 0 })) }
+        ensures { MatchOption result (can_begin stamp (length value.now) ≡ false) (λ x. (can_begin stamp (length value.now) ≡ true) × (saving_value x ≡ record { container = container; key = key.bytes; stamp = stamp; size = length value.now; digest = K.digested value.now; stored = 0 })) }
     {
         if stamp.sequence() < 1 || stamp.writer() < 1 || value.len() > LONGEST_VALUE {
             return None;
@@ -49,7 +47,7 @@ impl Saving {
 
     /// The container and the key.
     pub fn address(&self) -> (u8, Key)
-        ensures { (result.0 ≡ (saving_value self.now).container) × (key_bytes result.1 ≡ (saving_value self.now).key) }
+        ensures { (result.0 ≡ (saving_value self.now).container) × (result.1.bytes ≡ (saving_value self.now).key) }
     {
         (self.container, self.key)
     }
@@ -63,7 +61,7 @@ impl Saving {
 
     /// The name under which the value is put.
     pub fn name(&self) -> Name
-        ensures { name_bytes result ≡ name_of (saving_value self.now).container (saving_value self.now).key (saving_value self.now).stamp }
+        ensures { result ≡ name_of (saving_value self.now).container (saving_value self.now).key (saving_value self.now).stamp }
     {
         Name::new(self.container, &self.key, &self.stamp)
     }

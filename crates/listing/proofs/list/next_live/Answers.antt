@@ -1,5 +1,4 @@
 use Rattle.std.proofs.Common.{◌≡◌, true, false, sym, refl, ap, ◌∙◌, subst}
-use Rattle.naming.specs.Keys.{key_bytes}
 use Rattle.directory.specs.Meaning.{DirectoryMeaning}
 use Rattle.directory.specs.Calls.{entry_of, key_after}
 use Rattle.protocol.specs.Grounds.{is_there, live_of}
@@ -21,7 +20,7 @@ returns-then-is_live g c =
     record {
       value = walk_ends (g.D.Directory.meaning c.args.directory.now) c.args.container c.args.above.now c.in-Some.key c.loop-next.next c.in-Some.is
           (subst (λ (m : DirectoryMeaning). Walked m c.args.container c.args.above.now c.loop-next.next) first c.loop-next.invariant.1)
-          (subst (λ (m : DirectoryMeaning). true ≡ is_there (live_of (entry_of m c.args.container (key_bytes c.in-Some.key)))) same c.if-is_live.ensures.value);
+          (subst (λ (m : DirectoryMeaning). true ≡ is_there (live_of (entry_of m c.args.container c.in-Some.key.bytes))) same c.if-is_live.ensures.value);
       same = c.is_live.ensures.same ∙ same;
     }
 
@@ -39,6 +38,6 @@ loop-next-preserved g c =
     let value = c.next_key-next-in-Some.ensures.value ∙ ap (λ (m : DirectoryMeaning). key_after m c.args.container c.as_bytes.result.now) still ∙ ap (key_after (g.D.Directory.meaning d) c.args.container) c.as_bytes.ensures in (
       c.next_key-next-in-Some.ensures.same ∙ still,
       walk_goes_on (g.D.Directory.meaning d) c.args.container c.args.above.now c.in-Some.key c.loop-next.next c.in-Some.is c.loop-next.invariant.1 (g.met.D.Directory.limited d)
-          (subst (λ (m : DirectoryMeaning). false ≡ is_there (live_of (entry_of m c.args.container (key_bytes c.in-Some.key)))) c.loop-next.invariant.0 c.if-is_live.ensures.value)
+          (subst (λ (m : DirectoryMeaning). false ≡ is_there (live_of (entry_of m c.args.container c.in-Some.key.bytes))) c.loop-next.invariant.0 c.if-is_live.ensures.value)
           c.next_key-next-in-Some.result value,
     )

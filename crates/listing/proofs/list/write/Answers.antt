@@ -1,5 +1,4 @@
 use Rattle.std.proofs.Common.{◌≡◌, ℕ, List, ◌++◌, length, drop, refl, ap, ◌∙◌, subst, zero-add, arith}
-use Rattle.naming.specs.Keys.{key_bytes}
 use Rattle.directory.specs.Meaning.{DirectoryMeaning, contents}
 use Rattle.protocol.specs.Listing.{keys_of, listing}
 use Rattle.listing.specs.Walk.{keys_from}
@@ -16,7 +15,7 @@ pub put_key-at-requires : goal.put_key-at-requires
 put_key-at-requires g c =
     let m = contents c.args.container (g.D.Directory.meaning c.next_live-next.new.directory).entries in
     let first = ap (λ (x : DirectoryMeaning). length (listing (keys_of x c.args.container))) c.next_live-next.ensures.same in
-    omega (arith, c.requires, first, c.loop-next.invariant.1, length_listing_more (key_bytes c.in-Some.key) _ _ (ap (keys_from m) c.in-Some.is), c.loop-next.auto.buffer)
+    omega (arith, c.requires, first, c.loop-next.invariant.1, length_listing_more c.in-Some.key.bytes _ _ (ap (keys_from m) c.in-Some.is), c.loop-next.auto.buffer)
 
 pub loop-next-preserved : goal.loop-next-preserved
 loop-next-preserved g c =

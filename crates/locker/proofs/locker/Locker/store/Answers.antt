@@ -3,7 +3,7 @@ use Rattle.refusal.specs.declared.CloudFault.{CloudFault}
 use Rattle.refusal.specs.declared.Refusal.{Refusal}
 use Rattle.refusal.specs.declared.Refusal.TheVariants.{CloudRefused}
 use Rattle.naming.specs.Names.{name_of}
-use Rattle.protocol.specs.Clouds.{count}
+use Rattle.entry.specs.Clouds.{count}
 use Rattle.protocol.specs.Slots.{SavingValue, saving}
 use Rattle.protocol.specs.State.{Setting, State, slot_of}
 use Rattle.protocol.specs.Steps.{saving_of, acknowledged}

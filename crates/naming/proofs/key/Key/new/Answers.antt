@@ -1,32 +1,25 @@
-use Rattle.std.proofs.Common.{◌≡◌, ◌≤◌, true, length, sym, ap, ◌∙◌, arith}
-use Rattle.naming.specs.Limits.{longest_key}
-use Rattle.naming.specs.Text.{printable, valid_key}
-use Rattle.naming.proofs.Keys.{valid_key_low, valid_key_high, valid_key_printable}
-use Rattle.naming.proofs.Padding.{filled_front, filled_rest, filled_length}
+use Rattle.std.proofs.Common.{true, sym, ◌∙◌, arith}
+use Rattle.std.proofs.lemmas.Bool.Decides.{nat_tests}
+use Rattle.naming.specs.Text.{valid_key}
+use Rattle.naming.proofs.Keys.{valid_key_from}
 use Rattle.naming.proofs.key.Key.new.Goals as goal
+use Rattle.naming.proofs.key.Key.new.Goals.{then-is_empty-via-then-is_empty, then-is_empty-via-else-is_empty+then-not-is_printable}
 
-pub overwrite-requires : goal.overwrite-requires
-overwrite-requires c = omega (arith, valid_key_high c.args.bytes.now (sym c.if-not-is_valid.ensures))
+pub returns-in_err-text : goal.returns-in_err-text
+unfolding valid_key
+returns-in_err-text c = rw c.from_residual.ensures (let long = c.in_err-text.ensures.none in grind (arith, nat_tests))
 
-pub overflow_cast-result : goal.overflow_cast-result
-overflow_cast-result c = omega (arith, valid_key_high c.args.bytes.now (sym c.if-not-is_valid.ensures))
+pub returns-then-is_empty : goal.returns-then-is_empty
+unfolding valid_key
+returns-then-is_empty c = elim c.then-is_empty.branch [
+  | then-is_empty-via-then-is_empty w ↦ let empty = w.if-is_empty.ensures in grind (arith, nat_tests)
+  | then-is_empty-via-else-is_empty+then-not-is_printable w ↦ let other = w.if-not-is_printable.ensures in grind (arith, nat_tests)
+]
 
 pub invariant_of-result : goal.invariant_of-result
+unfolding valid_key
 invariant_of-result c =
-    let bs = c.args.bytes.now in
-    let out = c.overwrite.new.buffer in
-    let valid : valid_key bs ≡ true = sym c.if-not-is_valid.ensures in
-    let high : length bs ≤ longest_key = valid_key_high bs valid in
-    let front = filled_front longest_key bs out high c.overwrite.ensures in record {
-      low = valid_key_low bs valid;
-      high = high;
-      size = filled_length longest_key bs out high c.overwrite.ensures;
-      text = ap printable front ∙ valid_key_printable bs valid;
-      padded = filled_rest longest_key bs out high c.overwrite.ensures;
-    }
-
-pub returns : goal.returns
-returns c =
-    let bs = c.args.bytes.now in
-    let valid : valid_key bs ≡ true = sym c.if-not-is_valid.ensures in
-    (valid, filled_front longest_key bs c.overwrite.new.buffer (valid_key_high bs valid) c.overwrite.ensures)
+    let some = c.if-is_empty.ensures in
+    let text = c.if-not-is_printable.ensures in
+    let same = c.in_ok-text.ensures.found in
+    record { valid = rw same.0 (grind (arith, nat_tests)) }

@@ -4,10 +4,6 @@ use Rattle.naming.specs.Stamps.{stamp_below}
 use Rattle.naming.proofs.Stamps.{stamps_are_ordered}
 use Rattle.naming.proofs.stamp.Stamp.is_below.Goals as goal
 
-pub returns-then-self-other : goal.returns-then-self-other
-unfolding stamp_below
-returns-then-self-other c = record { value = grind (arith, nat_tests); ordered = stamps_are_ordered }
-
 pub returns : goal.returns
 unfolding stamp_below
 returns c = record { value = grind (arith, nat_tests); ordered = stamps_are_ordered }

@@ -2,7 +2,6 @@ use Rattle.std.proofs.Common.{◌≡◌, ℕ, ◌+◌, ◌*◌, ◌≤◌, true,
 use Rattle.std.specs.Vec.{with_items}
 use Rattle.std.proofs.lemmas.List.{with_items_is}
 use Rattle.bytemap.proofs.Find.{ascending_gathered}
-use Rattle.naming.specs.Keys.{key_bytes}
 use Rattle.entry.specs.Entries.{entry_value}
 use Rattle.directory_table.specs.Entries.{pairs}
 use Rattle.directory_table.specs.Making.{table_entries, table_meaning}
@@ -34,7 +33,7 @@ invariant_of-self c =
     let m = table_meaning j.index in
     let t = c.commit-answer.new.self in
     let same : capacity (table_meaning t) ≡ capacity m = ap capacity c.commit-answer.ensures.after ∙ capacity_kept m (ascending_gathered (pairs (table_entries j.index))) _ _ _ in
-    let r : RecordValue = record { container = c.args.container; key = key_bytes c.args.key.now; entry = entry_value c.args.entry.now } in
+    let r : RecordValue = record { container = c.args.container; key = c.args.key.now.bytes; entry = entry_value c.args.entry.now } in
     let valid : ValidRecord r = subst ValidRecord c.new-record.ensures.value c.new-record.ensures.valid in
     let accepting : accepts m r ≡ true = rw (sym c.commit-answer.ensures.value ∙ c.in-Committed.is) refl in
     let end = c.store-self.result in

@@ -1,0 +1,16 @@
+use Rattle.std.proofs.Common.{◌≡◌, true, cond, ltb, sym, ap, ◌∙◌, arith}
+use Rattle.std.proofs.lemmas.Bool.{lt-ltb}
+use Rattle.entry.specs.Clouds.{with_cloud}
+use Rattle.entry.proofs.Sets.{with_few, with_is}
+use Rattle.entry.proofs.clouds.CloudSet.with.Goals as goal
+
+pub returns : goal.returns
+returns c =
+    let small : ltb c.args.cloud 7 ≡ true = lt-ltb c.args.cloud 7 (omega arith) in
+    with_is c.bits.result c.args.cloud (omega arith)
+    ∙ ap (λ s. with_cloud s c.args.cloud) c.bits.ensures.value
+    ∙ sym (ap (λ b. cond b (with_cloud c.args.self.now c.args.cloud) c.args.self.now) small)
+
+pub invariant_of-result : goal.invariant_of-result
+invariant_of-result c =
+    with_few c.bits.result c.args.cloud (omega (arith, c.bits.ensures.value, c.bits.ensures.few)) (omega arith)

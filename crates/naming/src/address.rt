@@ -1,0 +1,24 @@
+//! Addresses: keys in their containers.
+
+ghost use Rattle.naming.specs.Addresses.{address_le, address_preorder};
+
+use crate::key::Key;
+use byte_strings::successor::Ordered;
+
+/// A container, and a key in it: where a value is kept.
+#[derive(Clone, Copy)]
+pub struct Address {
+    pub container: u8,
+    pub key: Key,
+}
+
+/// Addresses are in the order of the containers and then of the keys.
+impl Ordered for Address {
+    ghost le = { address_le };
+
+    ghost ordered = { address_preorder };
+
+    fn is_at_most(&self, other: &Address) -> bool {
+        (self.container, self.key.as_bytes()) <= (other.container, other.key.as_bytes())
+    }
+}

@@ -1,7 +1,13 @@
 //! Byte strings of limited length, kept in place.
 
-ghost use Rattle.std.specs.Prelude.{◌≡◌, ◌+◌, ◌<◌, ◌≤◌, [], ◌++◌, length, take, drop, IfSome, IfNone};
+ghost use Rattle.std.specs.Prelude.{◌≡◌, ◌+◌, ◌<◌, ◌≤◌, [], ◌++◌, length, take, drop, IfSome, IfNone, ◌==◌};
+ghost use Rattle.std.specs.Ordering.{nat_cmp, as_partial_cmp};
+ghost use Rattle.std.specs.Cmp.{partial_order_from_own_ties};
+ghost use Rattle.std.specs.Cmp.Lexicographic.{pointwise, slice_cmp};
+ghost use Rattle.std.specs.Cmp.Rules.{comparing};
+ghost use Rattle.std.proofs.Common.{rules};
 
+use std::cmp::Ordering;
 use std::marker::Model;
 
 /// A byte string of at most `N` bytes. Past them the array holds zeros, so that equal strings are equal in every byte.
@@ -35,6 +41,46 @@ fn overwrite(buffer: &mut [u8], at: usize, bytes: &[u8])
 {
     let end = at + bytes.len();
     buffer[at..end].copy_from_slice(bytes);
+}
+
+/// Equal where the bytes are.
+impl<const N: usize> PartialEq for FixedBytes<N> {
+    ghost eq = { pointwise ◌==◌ };
+
+    ghost laws = { Prim.search (comparing, rules) };
+
+    fn eq(&self, other: &Self) -> bool {
+        self.as_slice() == other.as_slice()
+    }
+}
+
+impl<const N: usize> Eq for FixedBytes<N> {
+    ghost laws = { Prim.search (comparing, rules) };
+}
+
+/// In the order of byte strings.
+impl<const N: usize> Ord for FixedBytes<N> {
+    ghost cmp = { slice_cmp nat_cmp };
+
+    ghost total = { Prim.search (comparing, rules) };
+
+    ghost matches_partial_cmp = { Prim.search (comparing, rules) };
+
+    ghost matches_eq = { Prim.search (comparing, rules) };
+
+    fn cmp(&self, other: &Self) -> Ordering {
+        self.as_slice().cmp(other.as_slice())
+    }
+}
+
+impl<const N: usize> PartialOrd for FixedBytes<N> {
+    ghost partial_cmp = { as_partial_cmp (slice_cmp nat_cmp) };
+
+    ghost laws = { partial_order_from_own_ties (Prim.search (comparing, rules)) (Prim.search (comparing, rules)) };
+
+    fn partial_cmp(&self, other: &Self) -> Option<Ordering> {
+        Some(self.cmp(other))
+    }
 }
 
 impl<const N: usize> FixedBytes<N> {

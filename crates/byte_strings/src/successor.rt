@@ -5,6 +5,7 @@ ghost use Rattle.byte_strings.specs.Order.{TotalPreorder, UpwardClosed};
 ghost use Rattle.byte_strings.specs.Least.{Least};
 
 /// Elements of which any two can be compared. `le x y` says that x is at most y.
+// Not std's `Ord`, which wants an `==` in step with the order: a place of a cloud is ordered by its name alone.
 pub trait Ordered {
     ghost le: { Self → Self → Bool };
 
@@ -29,6 +30,7 @@ pub trait Bound<T: Ordered> {
 pub fn successor<T: Ordered, B: Bound<T>>(items: &[T], bound: &B) -> Option<usize>
     ensures { Least (B.above bound.now) T.le items.now (length items.now) result }
 {
+    // Over indices and not items: the answer is an index, and two places of the list are compared.
     let mut best: Option<usize> = None;
     for i in 0..items.len() {
         best = better(items, bound, i, best);

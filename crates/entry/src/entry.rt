@@ -9,6 +9,7 @@ use naming::stamp::Stamp;
 mod methods;
 
 /// The last write to a key: its stamp, neither number of which is 0, and the value, or none where the key was deleted.
+// No `impl Model`: what is proved of directories reads the limits off each entry that they hold.
 #[derive(Clone, Copy)]
 pub struct Entry {
     stamp: Stamp,

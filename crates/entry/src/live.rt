@@ -13,6 +13,7 @@ mod methods;
 pub const LONGEST_VALUE: usize = 1024;
 
 /// A value that is there: the clouds that hold it, its size and its digest.
+// No `impl Model`: what is proved of directories reads the limits off each value that an entry has.
 #[derive(Clone, Copy)]
 pub struct Live {
     // At least one.

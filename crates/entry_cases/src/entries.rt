@@ -1,4 +1,5 @@
 //! Both ends of each limit of an entry, and one past them.
+use entry::clouds::CloudSet;
 use entry::entry::Entry;
 use entry::live::Live;
 use naming::stamp::Stamp;
@@ -13,17 +14,11 @@ fn is_live(rt: &impl Abort, clouds: u8, size: usize, width: usize) -> bool {
 }
 
 fn stamp(sequence: u32, writer: u8) -> Result<Stamp, Fail> {
-    match Stamp::new(sequence, writer) {
-        Some(stamp) => Ok(stamp),
-        None => Err(Fail::new("no such writer")),
-    }
+    Stamp::new(sequence, writer).ok_or_else(|| Fail::new("no such writer"))
 }
 
 fn live(clouds: u8, size: usize) -> Result<Live, Fail> {
-    match Live::new(clouds, size, &DIGEST[0..20]) {
-        Some(live) => Ok(live),
-        None => Err(Fail::new("no such value")),
-    }
+    Live::new(clouds, size, &DIGEST[0..20]).ok_or_else(|| Fail::new("no such value"))
 }
 
 #[test]
@@ -94,19 +89,34 @@ fn neither_number_of_a_stamp_is_0(rt: HostRuntime) -> Result<(), Fail> {
 
 #[test]
 fn an_entry_is_read_back(rt: HostRuntime) -> Result<(), Fail> {
-    let Some(saved) = Entry::saved(stamp(2, 3)?, live(5, 1024)?) else {
-        return Err(Fail::new("not saved"));
-    };
+    let saved = Entry::saved(stamp(2, 3)?, live(5, 1024)?).ok_or_else(|| Fail::new("not saved"))?;
     assert_eq!(rt; saved.stamp().sequence(), 2);
     assert_eq!(rt; saved.stamp().writer(), 3);
-    let Some(value) = saved.live() else {
-        return Err(Fail::new("not live"));
-    };
+    let value = saved.live().ok_or_else(|| Fail::new("not live"))?;
     assert_eq!(rt; value.size(), 1024);
-    let Some(deleted) = Entry::deleted(stamp(2, 3)?) else {
-        return Err(Fail::new("not deleted"));
-    };
+    let deleted = Entry::deleted(stamp(2, 3)?).ok_or_else(|| Fail::new("not deleted"))?;
     assert_eq!(rt; deleted.stamp().writer(), 3);
     assert!(rt; deleted.live().is_none());
     Ok(())
+}
+
+// With each cloud of a row and one past them: how many are in the set after it, and the bits.
+#[test]
+fn a_set_takes_seven_clouds(rt: HostRuntime) {
+    let mut set = CloudSet::empty();
+    for (cloud, count, bits) in [
+        (0usize, 1, 0b000_0001),
+        (2, 2, 0b000_0101),
+        (2, 2, 0b000_0101),
+        (6, 3, 0b100_0101),
+        (7, 3, 0b100_0101),
+        (64, 3, 0b100_0101),
+    ] {
+        set = set.with(cloud);
+        assert_eq!(rt; set.count(), count);
+        assert_eq!(rt; set.bits(), bits);
+    }
+    assert!(rt; set.has(6) && !set.has(1) && !set.has(7) && !set.has(64));
+    assert_eq!(rt; CloudSet::from_bits(0b100_0101), Some(set));
+    assert!(rt; CloudSet::from_bits(128).is_none());
 }

@@ -6,7 +6,7 @@ use crate::key::Key;
 use byte_strings::successor::Ordered;
 
 /// A container, and a key in it: where a value is kept.
-#[derive(Clone, Copy)]
+#[derive(Clone, Copy, PartialEq, Eq, PartialOrd, Ord)]
 pub struct Address {
     pub container: u8,
     pub key: Key,
@@ -19,6 +19,6 @@ impl Ordered for Address {
     ghost ordered = { address_preorder };
 
     fn is_at_most(&self, other: &Address) -> bool {
-        (self.container, self.key.as_bytes()) <= (other.container, other.key.as_bytes())
+        self <= other
     }
 }

@@ -12,7 +12,7 @@ const LONGEST: usize = 32;
 
 /// A key: 1 to 32 printable bytes.
 // No `impl Model`: that the bytes are a key is read off a key by what is proved of tables and records that hold some.
-#[derive(Clone, Copy)]
+#[derive(Clone, Copy, PartialEq, Eq, PartialOrd, Ord)]
 pub struct Key {
     bytes: FixedBytes<LONGEST>,
     ghost valid: { valid_key bytes ≡ true },

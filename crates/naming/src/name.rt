@@ -10,7 +10,7 @@ mod reading;
 const LONGEST: usize = 39;
 
 /// A name: up to 39 bytes.
-#[derive(Clone, Copy)]
+#[derive(Clone, Copy, PartialEq, Eq, PartialOrd, Ord)]
 pub struct Name {
     bytes: FixedBytes<LONGEST>,
 }

@@ -4,6 +4,8 @@
 #[cfg(test)]
 mod byte_cases;
 #[cfg(test)]
+mod fixed_cases;
+#[cfg(test)]
 mod key_cases;
 #[cfg(test)]
 mod made;

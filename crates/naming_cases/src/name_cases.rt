@@ -1,6 +1,6 @@
 //! Names, byte for byte.
 
-use crate::made::{key, name, stamp};
+use crate::made::{address, name, stamp};
 use byte_strings::compare::is_below;
 use naming::name::Name;
 use std::test::Fail;
@@ -9,17 +9,17 @@ const KEY_32: &[u8; 32] = b"0123456789abcdefghijklmnopqrstuv";
 
 #[test]
 fn a_name_is_container_key_separator_and_stamp(rt: HostRuntime) -> Result<(), Fail> {
-    let name = Name::new(7, &key(b"A")?, &stamp(1, 2)?);
+    let name = Name::new(&address(7, b"A")?, &stamp(1, 2)?);
     assert_eq!(rt;
         name.as_bytes(),
         b"\x07A\x7C\x00\x00\x00\x01\x02".as_slice()
     );
-    let name = Name::new(0, &key(b"~!")?, &stamp(0x0102_0304, 0)?);
+    let name = Name::new(&address(0, b"~!")?, &stamp(0x0102_0304, 0)?);
     assert_eq!(rt;
         name.as_bytes(),
         b"\x00~!\x7C\x01\x02\x03\x04\x00".as_slice()
     );
-    let name = Name::new(255, &key(KEY_32)?, &stamp(4_294_967_295, 16)?);
+    let name = Name::new(&address(255, KEY_32)?, &stamp(4_294_967_295, 16)?);
     assert_eq!(rt;
         name.as_bytes(),
         b"\xFF0123456789abcdefghijklmnopqrstuv\x7C\xFF\xFF\xFF\xFF\x10".as_slice()
@@ -29,8 +29,8 @@ fn a_name_is_container_key_separator_and_stamp(rt: HostRuntime) -> Result<(), Fa
 
 #[test]
 fn a_name_has_8_to_39_bytes(rt: HostRuntime) -> Result<(), Fail> {
-    assert_eq!(rt; Name::new(0, &key(b"A")?, &stamp(0, 0)?).len(), 8);
-    assert_eq!(rt; Name::new(0, &key(KEY_32)?, &stamp(0, 0)?).len(), 39);
+    assert_eq!(rt; Name::new(&address(0, b"A")?, &stamp(0, 0)?).len(), 8);
+    assert_eq!(rt; Name::new(&address(0, KEY_32)?, &stamp(0, 0)?).len(), 39);
     Ok(())
 }
 
@@ -45,37 +45,37 @@ fn there_is_room_for_39_bytes(rt: HostRuntime) -> Result<(), Fail> {
 
 #[test]
 fn a_name_is_of_one_container_and_key(rt: HostRuntime) -> Result<(), Fail> {
-    let a = key(b"A")?;
-    let name = Name::new(7, &a, &stamp(1, 2)?);
-    assert!(rt; Name::is_of(name.as_bytes(), 7, &a));
-    assert!(rt; !Name::is_of(name.as_bytes(), 8, &a));
-    assert!(rt; !Name::is_of(name.as_bytes(), 7, &key(b"B")?));
-    let longer = key(b"A|B")?;
-    let other = Name::new(7, &longer, &stamp(1, 2)?);
-    assert!(rt; Name::is_of(other.as_bytes(), 7, &longer));
-    assert!(rt; !Name::is_of(other.as_bytes(), 7, &a));
-    assert!(rt; !Name::is_of(name.as_bytes(), 7, &longer));
+    let a = address(7, b"A")?;
+    let name = Name::new(&a, &stamp(1, 2)?);
+    assert!(rt; Name::is_of(name.as_bytes(), &a));
+    assert!(rt; !Name::is_of(name.as_bytes(), &address(8, b"A")?));
+    assert!(rt; !Name::is_of(name.as_bytes(), &address(7, b"B")?));
+    let longer = address(7, b"A|B")?;
+    let other = Name::new(&longer, &stamp(1, 2)?);
+    assert!(rt; Name::is_of(other.as_bytes(), &longer));
+    assert!(rt; !Name::is_of(other.as_bytes(), &a));
+    assert!(rt; !Name::is_of(name.as_bytes(), &longer));
     Ok(())
 }
 
 #[test]
 fn other_bytes_are_no_name(rt: HostRuntime) -> Result<(), Fail> {
-    let a = key(b"A")?;
-    assert!(rt; !Name::is_of(b"", 7, &a));
-    assert!(rt; !Name::is_of(b"\x07A\x7C", 7, &a));
-    assert!(rt; !Name::is_of(b"\x07A\x7C\x00\x00\x00\x01", 7, &a));
-    assert!(rt; !Name::is_of(b"\x07A\x7C\x00\x00\x00\x01\x02\x02", 7, &a));
-    assert!(rt; !Name::is_of(b"\x07A\x7B\x00\x00\x00\x01\x02", 7, &a));
-    assert!(rt; !Name::is_of(b"\x07A\x7C\x00\x00\x00\x01\x11", 7, &a));
-    assert!(rt; Name::is_of(b"\x07A\x7C\x00\x00\x00\x01\x10", 7, &a));
-    assert!(rt; Name::is_of(b"\x07A\x7C\x00\x00\x00\x00\x00", 7, &a));
-    assert!(rt; Name::is_of(b"\x07A\x7C\xFF\xFF\xFF\xFF\x10", 7, &a));
+    let a = address(7, b"A")?;
+    assert!(rt; !Name::is_of(b"", &a));
+    assert!(rt; !Name::is_of(b"\x07A\x7C", &a));
+    assert!(rt; !Name::is_of(b"\x07A\x7C\x00\x00\x00\x01", &a));
+    assert!(rt; !Name::is_of(b"\x07A\x7C\x00\x00\x00\x01\x02\x02", &a));
+    assert!(rt; !Name::is_of(b"\x07A\x7B\x00\x00\x00\x01\x02", &a));
+    assert!(rt; !Name::is_of(b"\x07A\x7C\x00\x00\x00\x01\x11", &a));
+    assert!(rt; Name::is_of(b"\x07A\x7C\x00\x00\x00\x01\x10", &a));
+    assert!(rt; Name::is_of(b"\x07A\x7C\x00\x00\x00\x00\x00", &a));
+    assert!(rt; Name::is_of(b"\x07A\x7C\xFF\xFF\xFF\xFF\x10", &a));
     Ok(())
 }
 
 #[test]
 fn names_are_in_the_order_of_their_stamps(rt: HostRuntime) -> Result<(), Fail> {
-    let a = key(b"A")?;
+    let a = address(7, b"A")?;
     let ascending = [
         (0, 0),
         (0, 16),
@@ -89,8 +89,8 @@ fn names_are_in_the_order_of_their_stamps(rt: HostRuntime) -> Result<(), Fail> {
     for (i, s) in ascending.iter().enumerate() {
         for (j, t) in ascending.iter().enumerate() {
             let (x, y) = (
-                Name::new(7, &a, &stamp(s.0, s.1)?),
-                Name::new(7, &a, &stamp(t.0, t.1)?),
+                Name::new(&a, &stamp(s.0, s.1)?),
+                Name::new(&a, &stamp(t.0, t.1)?),
             );
             assert_eq!(rt; is_below(x.as_bytes(), y.as_bytes()), i < j);
         }

@@ -1,16 +1,9 @@
 //! The next name and the next key.
 
-use crate::made::{key, name};
-use naming_next::container_key::ContainerKey;
+use crate::made::{address, name};
+use naming::address::Address;
 use naming_next::next::{next_key, next_name};
 use std::test::Fail;
-
-fn placed(container: u8, bytes: &[u8]) -> Result<ContainerKey, Fail> {
-    Ok(ContainerKey {
-        container,
-        key: key(bytes)?,
-    })
-}
 
 #[test]
 fn the_next_name_is_the_smallest_above(rt: HostRuntime) -> Result<(), Fail> {
@@ -33,13 +26,13 @@ fn the_next_name_is_the_smallest_above(rt: HostRuntime) -> Result<(), Fail> {
 
 #[test]
 fn the_next_key_is_one_of_the_container(rt: HostRuntime) -> Result<(), Fail> {
-    assert_eq!(rt; next_key(&[], 0, b""), None);
+    assert_eq!(rt; next_key::<Address>(&[], 0, b""), None);
     let keys = [
-        placed(0, b"b")?,
-        placed(255, b"z")?,
-        placed(0, b"a")?,
-        placed(1, b"a")?,
-        placed(255, b"y")?,
+        address(0, b"b")?,
+        address(255, b"z")?,
+        address(0, b"a")?,
+        address(1, b"a")?,
+        address(255, b"y")?,
     ];
     assert_eq!(rt; next_key(&keys, 0, b""), Some(2));
     assert_eq!(rt; next_key(&keys, 0, b"a"), Some(0));

@@ -45,13 +45,13 @@ fn the_sequence_decides_and_then_the_writer(rt: HostRuntime) -> Result<(), Fail>
 
 #[test]
 fn the_next_stamp_is_one_further(rt: HostRuntime) -> Result<(), Fail> {
-    let Some(first) = Stamp::none().next(16) else {
-        return Err(Fail::new("no first stamp"));
-    };
+    let first = Stamp::none()
+        .next(16)
+        .ok_or_else(|| Fail::new("no first stamp"))?;
     assert!(rt; first.is_same(&stamp(1, 16)?));
-    let Some(last) = stamp(4_294_967_294, 3)?.next(1) else {
-        return Err(Fail::new("no last stamp"));
-    };
+    let last = stamp(4_294_967_294, 3)?
+        .next(1)
+        .ok_or_else(|| Fail::new("no last stamp"))?;
     assert!(rt; last.is_same(&stamp(4_294_967_295, 1)?));
     assert!(rt; last.next(0).is_none());
     assert!(rt; first.next(17).is_none());

@@ -23,6 +23,6 @@ impl Key {
     pub fn is_same(&self, other: &Key) -> bool
         ensures { Decides result (self.now.bytes ≡ other.now.bytes) }
     {
-        self.as_bytes() == other.as_bytes()
+        self == other
     }
 }

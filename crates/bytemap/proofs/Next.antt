@@ -3,6 +3,7 @@ use Rattle.std.proofs.Common.{◌≡◌, ℕ, zero, suc, ◌<◌, true, false, c
 use Rattle.std.specs.Str.{bytes_eq}
 use Rattle.std.specs.Option.{option_map}
 use Rattle.std.proofs.lemmas.Bool.{cases_Bool, both_ways}
+use Rattle.std.proofs.lemmas.List.{map-id}
 use Rattle.byte_strings.specs.Order.{below, at_most}
 use Rattle.byte_strings.specs.Least.{Least}
 use Rattle.byte_strings.specs.OrderLaws.{below_or_at_most, at_most_antisymmetric}
@@ -120,3 +121,8 @@ module _ {X V : Type 0} (f : X → List ℕ × V) where
       next_some (gathered (map f xs)) a (f (get_or xs i d)).0 g.0 (ascending_gathered (map f xs)) (h.passing d) (find_gathered (map f xs) (f (get_or xs i d)).0 ∙ g.1)
       (λ k w t e. let r = found_at xs k w (sym (find_gathered (map f xs) k) ∙ e) in
       subst (λ x. at_most (f (get_or xs i d)).0 x ≡ true) (r.2 d) (h.least r.0 r.1 d (subst (λ x. below a x ≡ true) (sym (r.2 d)) t)))
+
+-- the same among the pairs themselves
+pub next_among : {V : Type 0} (ps : List (List ℕ × V)) (a : List ℕ) (d : List ℕ × V) (r : Option ℕ) → Least (λ p. below a p.0) (λ p q. at_most p.0 q.0) ps (length ps) r
+    → next_key (gathered ps) a ≡ option_map (λ i. (get_or ps i d).0) r
+next_among ps a d r h = ap (λ qs. next_key (gathered qs) a) (sym (map-id ps)) ∙ next_from_least (λ p. p) ps a d r h

@@ -1,10 +1,12 @@
 -- Pairs in any order, none with the key of another: what they find, and the map that they make, after a change.
-use Rattle.std.proofs.Common.{◌≡◌, ℕ, zero, suc, ◌+◌, ◌<◌, true, false, cond, not, List, [], ◌∷◌, ◌++◌, length, get_or, take, drop, set, is_some, Some, None, Option, sym, refl, ap, ◌∙◌, subst, ⊎_elim, arith}
+use Rattle.std.proofs.Common.{◌≡◌, ℕ, zero, suc, ◌+◌, ◌<◌, ◌≤◌, true, false, cond, not, List, [], ◌∷◌, ◌++◌, length, get_or, take, drop, set, is_some, Some, None, Option, sym, refl, ap, ◌∙◌, subst, ⊎_elim, arith}
+use Rattle.std.specs.List.{position_or_len}
 use Rattle.std.specs.Str.{bytes_eq}
+use Rattle.std.proofs.lemmas.List.Quantifiers.{position-Some}
 use Rattle.std.proofs.lemmas.Bool.{cases_Bool, and_parts, and_from}
 use Rattle.std.proofs.lemmas.Bool.Decides.{nat_tests}
 use Rattle.byte_strings.specs.Order.{below}
-use Rattle.bytemap.specs.Map.{Map, find, insert, remove, Ascending, gathered, Distinct, all_different}
+use Rattle.bytemap.specs.Map.{Map, find, insert, remove, Ascending, gathered, Distinct, all_different, place_of}
 use Rattle.bytemap.proofs.Find.{same_self, same_is, same_sym, same_through, find_empty, find_cons, before_first, find_insert, find_remove, find_gathered, ascending_insert, ascending_remove, ascending_gathered, same_map}
 
 module _ {V : Type 0} where
@@ -150,3 +152,64 @@ module _ {V : Type 0} where
   pub different_from : (ps : List (List ℕ × V)) → Distinct ps → all_different ps ≡ true
   different_from [] d = refl
   different_from (p ∷ ps) d = and_from (not (is_some (find ps p.0))) (all_different ps) (rw d.0) (different_from ps d.1)
+
+  -- ---- one pair changed, by what a search for its key found
+
+  found_nowhere : (ps : List (List ℕ × V)) (k : List ℕ) → length ps ≤ position_or_len (λ p. bytes_eq p.0 k) ps → find ps k ≡ None
+  unfolding find
+  found_nowhere [] k h = refl
+  found_nowhere (p ∷ ps) k h =
+      ⊎_elim (λ (t : bytes_eq p.0 k ≡ true). absurd (let z = rw t at h in omega arith))
+      (λ (f : bytes_eq p.0 k ≡ false). rw f (found_nowhere ps k (let z = rw f at h in omega arith))) (cases_Bool (bytes_eq p.0 k))
+
+  module _ (ps : List (List ℕ × V)) (k : List ℕ) where
+    -- no pair has the key
+    module _ (nowhere : None ≡ place_of ps k) where
+      absent : find ps k ≡ None
+      absent = found_nowhere ps k (grind (arith, nat_tests))
+
+      pub unplaced : find (gathered ps) k ≡ None
+      unplaced = find_gathered ps k ∙ absent
+
+      module _ (v : V) (q : List ℕ × V) (is : q ≡ (k, v)) where
+        pub gathered_push : gathered (ps ++ q ∷ []) ≡ insert (gathered ps) k v
+        gathered_push = rw is (gathered_insert ps _ k v (λ j. find_push ps k v j absent))
+
+        pub different_push : all_different ps ≡ true → all_different (ps ++ q ∷ []) ≡ true
+        different_push different = rw is (different_from _ (distinct_push ps k v (distinct_from ps different) absent))
+
+    -- the pair at the index has the key, and no other one has
+    module _ (i : ℕ) (here : Some i ≡ place_of ps k) (different : all_different ps ≡ true) where
+      within : i < length ps
+      within = grind (arith, nat_tests)
+
+      distinct : Distinct ps
+      distinct = distinct_from ps different
+
+      own : (d : List ℕ × V) → (get_or ps i d).0 ≡ k
+      own d = same_is _ k (position-Some (λ p. bytes_eq p.0 k) ps i d (sym here)).1
+
+      pub placed : (d : List ℕ × V) → find (gathered ps) k ≡ Some (get_or ps i d).1
+      placed d = find_gathered ps k ∙ subst (λ n. find ps n ≡ Some (get_or ps i d).1) (own d) (find_at ps i d within distinct)
+
+      module _ (v : V) (q : List ℕ × V) (is : q ≡ (k, v)) where
+        named : q ≡ ((get_or ps i q).0, v)
+        named = is ∙ ap (λ n. (n, v)) (sym (own q))
+
+        pub gathered_set : gathered (set ps i q) ≡ insert (gathered ps) k v
+        gathered_set =
+            rw named
+            (subst (λ n. gathered (set ps i ((get_or ps i q).0, v)) ≡ insert (gathered ps) n v) (own q)
+            (gathered_insert ps _ _ v (λ j. find_set ps i q v j within distinct)))
+
+        pub different_set : all_different (set ps i q) ≡ true
+        different_set = rw named (different_from _ (distinct_set ps i q v within distinct))
+
+      module _ (d : List ℕ × V) where
+        pub gathered_without : gathered (take i ps ++ drop (suc i) ps) ≡ remove (gathered ps) k
+        gathered_without =
+            subst (λ n. gathered (take i ps ++ drop (suc i) ps) ≡ remove (gathered ps) n) (own d)
+            (gathered_remove ps _ _ (λ j. find_removed ps i d j within distinct))
+
+        pub different_without : all_different (take i ps ++ drop (suc i) ps) ≡ true
+        different_without = different_from _ (distinct_removed ps i d within distinct)

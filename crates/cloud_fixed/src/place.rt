@@ -34,7 +34,7 @@ impl Place {
     pub fn size() -> usize
         ensures { result ≡ 1066 }
     {
-        std::mem::size_of::<Place>()
+        size_of::<Place>()
     }
 
     pub(crate) fn new(name: &[u8], value: &[u8]) -> Place

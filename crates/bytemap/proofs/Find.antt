@@ -17,15 +17,13 @@ pub same_is : (j k : List ℕ) → bytes_eq j k ≡ true → j ≡ k
 same_is j k h = (bytes_eq-Decides j k).0 h
 
 pub apart : (j k : List ℕ) → (j ≡ k → ⊥) → bytes_eq j k ≡ false
-apart j k h = ⊎_elim (λ t. absurd (h (same_is j k t))) (λ f. f) (cases_Bool (bytes_eq j k))
+apart j k h = let s = same_is j k in grind arith
 
 pub below_apart : (j k : List ℕ) → below j k ≡ true → bytes_eq j k ≡ false
 below_apart j k h = apart j k (λ e. both_ways _ (below_irreflexive k) (subst (λ x. below x k ≡ true) e h))
 
 pub same_sym : (j k : List ℕ) → bytes_eq j k ≡ bytes_eq k j
-same_sym j k =
-    ⊎_elim (λ t. t ∙ sym ((bytes_eq-Decides k j).1 (sym (same_is j k t)))) (λ f. f ∙ sym (apart k j (λ e. both_ways _ f ((bytes_eq-Decides j k).1 (sym e)))))
-    (cases_Bool (bytes_eq j k))
+same_sym j k = let s = same_is j k in let t = same_is k j in let u = apart j k in let v = apart k j in grind (arith, same_self)
 
 -- equal keys are found alike
 pub same_at : (i k j : List ℕ) → bytes_eq i k ≡ true → bytes_eq i j ≡ bytes_eq k j
@@ -35,12 +33,10 @@ pub same_through : (i k j : List ℕ) → bytes_eq i j ≡ true → bytes_eq k j
 same_through i k j p q = (bytes_eq-Decides i k).1 (same_is i j p ∙ sym (same_is k j q))
 
 pub below_asymmetric : (j k : List ℕ) → below j k ≡ true → below k j ≡ false
-below_asymmetric j k h =
-    ⊎_elim (λ t. absurd (both_ways _ (below_irreflexive j) (below_transitive j k j h t))) (λ f. f) (cases_Bool (below k j))
+below_asymmetric j k h = let i = below_irreflexive j in let t = below_transitive j k j h in grind arith
 
 pub above_when : (k j : List ℕ) → below k j ≡ false → bytes_eq j k ≡ false → below j k ≡ true
-above_when k j f g =
-    ⊎_elim (λ h. h) (⊎_elim (λ e. absurd (both_ways _ g ((bytes_eq-Decides j k).1 e))) (λ h. absurd (both_ways _ f h))) (below_trichotomy j k)
+above_when k j f g = let e = below_trichotomy j k in let s = same_self k in grind arith
 
 -- ---- what is found
 
@@ -88,9 +84,7 @@ module _ {V : Type 0} where
   pub not_above : (a : List ℕ) (m : Map V) (k : List ℕ) → AllAbove a m → below a k ≡ false → find m k ≡ None
   unfolding find
   not_above a [] k q h = refl
-  not_above a (p ∷ m) k q h =
-      let e : bytes_eq p.0 k ≡ false = apart p.0 k (λ e. both_ways _ h (subst (λ x. below a x ≡ true) e q.0)) in
-      rw e (not_above a m k q.1 h)
+  not_above a (p ∷ m) k q h = let e = same_is p.0 k in let r = not_above a m k q.1 h in let t = q.0 in grind arith
 
   pub all_above_insert : (a : List ℕ) (m : Map V) (k : List ℕ) (v : V) → below a k ≡ true → AllAbove a m → AllAbove a (insert m k v)
   unfolding insert
@@ -143,41 +137,43 @@ module _ {V : Type 0} where
   none_or_some None = inl refl
   none_or_some (Some v) = inr (v, refl)
 
-  none_is_some : {v : V} → ◌≡◌ {A = Option V} None (Some v) → ⊥
-  none_is_some e = grind arith
-
   -- a key below the first is not found
   pub before_first : (q : List ℕ × V) (n : Map V) (k : List ℕ) → AllAbove q.0 n → below k q.0 ≡ true → find (q ∷ n) k ≡ None
   unfolding find
-  before_first q n k above h =
-      let e : bytes_eq q.0 k ≡ false = same_sym q.0 k ∙ below_apart k q.0 h in
-      rw e (not_above q.0 n k above (below_asymmetric k q.0 h))
+  before_first q n k above h = let e = same_sym q.0 k in let f = below_apart k q.0 h in let r = not_above q.0 n k above (below_asymmetric k q.0 h) in grind arith
 
   -- two ascending maps that find the same have the same first key
   same_first : (p q : List ℕ × V) (m n : Map V) → AllAbove p.0 m → AllAbove q.0 n → ((k : List ℕ) → find (p ∷ m) k ≡ find (q ∷ n) k) → p.0 ≡ q.0
   same_first p q m n above_p above_q same =
-      ⊎_elim (λ h. absurd (none_is_some (sym (before_first q n p.0 above_q h) ∙ sym (same p.0) ∙ found_first p m)))
-      (⊎_elim (λ e. e) (λ h. absurd (none_is_some (sym (before_first p m q.0 above_p h) ∙ same q.0 ∙ found_first q n))))
-      (below_trichotomy p.0 q.0)
+      let a = before_first q n p.0 above_q in
+      let b = before_first p m q.0 above_p in
+      let f = found_first p m in
+      let g = found_first q n in
+      let s = same p.0 in
+      let t = same q.0 in
+      let o = below_trichotomy p.0 q.0 in
+      grind arith
 
   -- and the same rest
   same_rest : (p q : List ℕ × V) (m n : Map V) → p.0 ≡ q.0 → AllAbove p.0 m → AllAbove q.0 n → ((k : List ℕ) → find (p ∷ m) k ≡ find (q ∷ n) k) → (k : List ℕ) → find m k ≡ find n k
   same_rest p q m n e above_p above_q same k =
-      ⊎_elim
-      (λ t. let d = same_is p.0 k t in
-      not_above p.0 m k above_p (subst (λ x. below p.0 x ≡ false) d (below_irreflexive p.0))
-      ∙ sym (not_above q.0 n k above_q (subst (λ x. below q.0 x ≡ false) (sym e ∙ d) (below_irreflexive q.0))))
-      (λ f.
-      let g : bytes_eq q.0 k ≡ false = subst (λ x. bytes_eq x k ≡ false) e f in
-      let a : find (p ∷ m) k ≡ find m k = find_cons p m k ∙ rw f in
-      let b : find (q ∷ n) k ≡ find n k = find_cons q n k ∙ rw g in
-      sym a ∙ same k ∙ b)
-      (cases_Bool (bytes_eq p.0 k))
+      let a = not_above p.0 m k above_p in
+      let b = not_above q.0 n k above_q in
+      let i = below_irreflexive p.0 in
+      let t = same_is p.0 k in
+      let f = find_cons p m k in
+      let g = find_cons q n k in
+      let s = same k in
+      grind (arith, nat_tests)
 
   pub same_map : (m n : Map V) → Ascending m → Ascending n → ((k : List ℕ) → find m k ≡ find n k) → m ≡ n
   same_map [] [] a b same = refl
-  same_map [] (q ∷ n) a b same = absurd (none_is_some (sym (find_empty q.0) ∙ same q.0 ∙ found_first q n))
-  same_map (p ∷ m) [] a b same = absurd (none_is_some (sym (find_empty p.0) ∙ sym (same p.0) ∙ found_first p m))
+  same_map [] (q ∷ n) a b same =
+      let s = same q.0 in
+      absurd (grind (arith, find_empty, found_first))
+  same_map (p ∷ m) [] a b same =
+      let s = same p.0 in
+      absurd (grind (arith, find_empty, found_first))
   same_map (p ∷ m) (q ∷ n) a b same =
       let e = same_first p q m n a.0 b.0 same in
       let r = same_map m n a.1 b.1 (same_rest p q m n e a.0 b.0 same) in

@@ -3,11 +3,12 @@ use Rattle.std.proofs.Common.{◌≡◌, ℕ, zero, suc, ◌<◌, true, false, c
 use Rattle.std.specs.Str.{bytes_eq}
 use Rattle.std.specs.Option.{option_map}
 use Rattle.std.proofs.lemmas.Bool.{cases_Bool, both_ways}
+use Rattle.std.proofs.lemmas.List.{map-id}
 use Rattle.byte_strings.specs.Order.{below, at_most}
 use Rattle.byte_strings.specs.Least.{Least}
 use Rattle.byte_strings.specs.OrderLaws.{below_or_at_most, at_most_antisymmetric}
 use Rattle.bytemap.specs.Map.{Map, find, next_key, AllAbove, Ascending, gathered}
-use Rattle.bytemap.proofs.Find.{before_first, find_empty, none_or_some, same_self, same_is, apart, find_cons, find_gathered, ascending_gathered}
+use Rattle.bytemap.proofs.Find.{before_first, find_empty, none_or_some, same_self, same_is, find_cons, find_gathered, ascending_gathered}
 
 module _ {V : Type 0} where
   -- no key above
@@ -15,25 +16,22 @@ module _ {V : Type 0} where
   unfolding find next_key
   next_none [] a h = refl
   next_none (p ∷ m) a h =
-      let f : below a p.0 ≡ false = ⊎_elim (λ t. absurd (let e : Some p.1 ≡ None = rw (same_self p.0) at (h p.0 t) in grind arith)) (λ f. f) (cases_Bool (below a p.0)) in
-      rw f (next_none m a (λ k t. ⊎_elim (λ (s : bytes_eq p.0 k ≡ true). absurd (both_ways _ f (subst (λ x. below a x ≡ true) (sym (same_is p.0 k s)) t))) (λ (s : bytes_eq p.0 k ≡ false). rw s at (h k t)) (cases_Bool (bytes_eq p.0 k))))
+      let f : below a p.0 ≡ false = (let t = h p.0 in let s = same_self p.0 in grind arith) in
+      rw f (next_none m a (λ k t. let b = h k t in let s = same_is p.0 k in grind arith))
 
   -- a key above a that p's is not
   beside : (p : List ℕ × V) (m : Map V) (a k : List ℕ) → below a p.0 ≡ false → below a k ≡ true → find (p ∷ m) k ≡ find m k
   unfolding find
-  beside p m a k s t =
-      let f : bytes_eq p.0 k ≡ false = apart p.0 k (λ e. both_ways _ s (subst (λ x. below a x ≡ true) (sym e) t)) in
-      rw f
+  beside p m a k s t = let e = same_is p.0 k in grind arith
 
   -- a key that is found is at least the first
   first_at_most : (p : List ℕ × V) (m : Map V) (n : List ℕ) (v : V) → AllAbove p.0 m → find (p ∷ m) n ≡ Some v → at_most p.0 n ≡ true
-  first_at_most p m n v above e =
-      ⊎_elim (λ u. absurd (let c : Some v ≡ None = sym e ∙ before_first p m n above u in grind arith)) (λ u. u) (below_or_at_most n p.0)
+  first_at_most p m n v above e = let t = before_first p m n above in let u = below_or_at_most n p.0 in grind arith
 
   -- the key that is found above, and at most each that is
   pub next_some : (m : Map V) (a n : List ℕ) (v : V) → Ascending m → below a n ≡ true → find m n ≡ Some v → ((k : List ℕ) (w : V) → below a k ≡ true → find m k ≡ Some w → at_most n k ≡ true) → next_key m a ≡ Some n
   unfolding next_key
-  next_some [] a n v asc t e least = absurd (let c : None ≡ Some v = sym (find_empty n) ∙ e in grind arith)
+  next_some [] a n v asc t e least = absurd (grind (arith, find_empty))
   next_some (p ∷ m) a n v asc t e least =
       ⊎_elim
       (λ (s : below a p.0 ≡ true).
@@ -48,9 +46,7 @@ module _ {V : Type 0} where
   pub next_is_above : (m : Map V) (a n : List ℕ) → next_key m a ≡ Some n → below a n ≡ true
   unfolding next_key
   next_is_above [] a n e = absurd (grind arith)
-  next_is_above (p ∷ m) a n e =
-      ⊎_elim (λ (s : below a p.0 ≡ true). let q : p.0 ≡ n = (let r : Some p.0 ≡ Some n = rw s at e in cc) in subst (λ x. below a x ≡ true) q s)
-      (λ (s : below a p.0 ≡ false). next_is_above m a n (rw s at e)) (cases_Bool (below a p.0))
+  next_is_above (p ∷ m) a n e = let r = next_is_above m a n in grind arith
 
   pub next_is_found : (m : Map V) (a n : List ℕ) → next_key m a ≡ Some n → (v : V) × (find m n ≡ Some v)
   unfolding next_key
@@ -69,20 +65,12 @@ module _ {V : Type 0} where
   pub next_is_least : (m : Map V) (a n k : List ℕ) (w : V) → Ascending m → next_key m a ≡ Some n → below a k ≡ true → find m k ≡ Some w → at_most n k ≡ true
   unfolding next_key
   next_is_least [] a n k w asc e t f = absurd (grind arith)
-  next_is_least (p ∷ m) a n k w asc e t f =
-      ⊎_elim
-      (λ (s : below a p.0 ≡ true).
-      let q : p.0 ≡ n = (let r : Some p.0 ≡ Some n = rw s at e in cc) in
-      subst (λ x. at_most x k ≡ true) q (first_at_most p m k w asc.0 f))
-      (λ (s : below a p.0 ≡ false). next_is_least m a n k w asc.1 (rw s at e) t (sym (beside p m a k s t) ∙ f))
-      (cases_Bool (below a p.0))
+  next_is_least (p ∷ m) a n k w asc e t f = let l = first_at_most p m k w asc.0 f in let r = next_is_least m a n k w asc.1 in let b = beside p m a k in grind arith
 
   pub none_is_above : (m : Map V) (a k : List ℕ) → next_key m a ≡ None → below a k ≡ true → find m k ≡ None
   unfolding next_key
   none_is_above [] a k e t = find_empty k
-  none_is_above (p ∷ m) a k e t =
-      ⊎_elim (λ (s : below a p.0 ≡ true). absurd (let r : Some p.0 ≡ None = rw s at e in grind arith))
-      (λ (s : below a p.0 ≡ false). beside p m a k s t ∙ none_is_above m a k (rw s at e) t) (cases_Bool (below a p.0))
+  none_is_above (p ∷ m) a k e t = let r = none_is_above m a k in let b = beside p m a k in grind arith
 
 -- ---- a search through elements that hold pairs
 
@@ -120,3 +108,8 @@ module _ {X V : Type 0} (f : X → List ℕ × V) where
       next_some (gathered (map f xs)) a (f (get_or xs i d)).0 g.0 (ascending_gathered (map f xs)) (h.passing d) (find_gathered (map f xs) (f (get_or xs i d)).0 ∙ g.1)
       (λ k w t e. let r = found_at xs k w (sym (find_gathered (map f xs) k) ∙ e) in
       subst (λ x. at_most (f (get_or xs i d)).0 x ≡ true) (r.2 d) (h.least r.0 r.1 d (subst (λ x. below a x ≡ true) (sym (r.2 d)) t)))
+
+-- the same among the pairs themselves
+pub next_among : {V : Type 0} (ps : List (List ℕ × V)) (a : List ℕ) (d : List ℕ × V) (r : Option ℕ) → Least (λ p. below a p.0) (λ p q. at_most p.0 q.0) ps (length ps) r
+    → next_key (gathered ps) a ≡ option_map (λ i. (get_or ps i d).0) r
+next_among ps a d r h = ap (λ qs. next_key (gathered qs) a) (sym (map-id ps)) ∙ next_from_least (λ p. p) ps a d r h

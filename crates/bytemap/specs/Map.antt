@@ -1,5 +1,6 @@
 -- Maps from byte strings: a list of keys with their values, the keys ascending, so that equal maps are equal lists.
 use Rattle.std.specs.Prelude.{◌≡◌, ℕ, Bool, true, cond, not, ◌&&◌, List, [], ◌∷◌, map, is_some, Some, None, Option}
+use Rattle.std.specs.List.{position}
 use Rattle.std.specs.Str.{bytes_eq}
 use Rattle.byte_strings.specs.Order.{below}
 
@@ -58,3 +59,7 @@ Distinct (p ∷ ps) = (find ps p.0 ≡ None) × Distinct ps
 abbrev pub all_different : {V : Type 0} → List (List ℕ × V) → Bool
 all_different [] = true
 all_different (p ∷ ps) = not (is_some (find ps p.0)) && all_different ps
+
+-- the index of the first pair with a key
+abbrev pub place_of : {V : Type 0} → List (List ℕ × V) → List ℕ → Option ℕ
+place_of ps k = position (λ p. bytes_eq p.0 k) ps

@@ -1,10 +1,10 @@
 -- What a call at a sound cloud answers, writes and leaves, by what the cloud finds.
-use Rattle.std.proofs.Common.{◌≡◌, ℕ, ◌+◌, ◌-◌, ◌<◌, ◌≤◌, true, false, eqb, leb, ◌⊎◌, List, length, Some, None, Ok, Err, refl, arith}
+use Rattle.std.proofs.Common.{◌≡◌, ℕ, ◌+◌, ◌-◌, ◌<◌, ◌≤◌, true, false, eqb, leb, ◌⊎◌, List, length, Some, None, Ok, Err, IfOk, refl, arith}
 use Rattle.std.proofs.lemmas.Bool.Decides.{nat_tests}
 use Rattle.refusal.specs.declared.Cause.TheVariants.{Full, TooLong, NotHeld}
 use Rattle.bytemap.specs.Map.{Map, find, insert, remove, next_key}
 use Rattle.cloud.specs.Meaning.{CloudMeaning}
-use Rattle.cloud.specs.Outcomes.{over, fits, put_answer, put_after, get_answer, get_part, drop_answer, drop_after, next_answer, next_place, PutOutcome, GetOutcome, DropOutcome, NextOutcome}
+use Rattle.cloud.specs.Outcomes.{Length, over, fits, length_within, part_within, put_answer, put_after, get_answer, get_part, drop_answer, drop_after, next_answer, next_place, PutOutcome, GetOutcome, DropOutcome, NextOutcome}
 
 abbrev Held : Type 0
 Held = Map (List ℕ)
@@ -54,6 +54,13 @@ module _ (held : Held) (free : ℕ) (name : List ℕ) where
     get_done value some short n part' l w =
         let e : leb (length value) (length part) ≡ true = grind (arith, nat_tests) in
         record { within = omega arith; answer = λ _. rw (some, e, l); written = λ _. rw (some, e, w); after = λ _. refl }
+
+    -- what is found is written as far as there is room for it
+    pub get_found : (value : List ℕ) → find held name ≡ Some value → (r : Length) (part' : List ℕ) → r ≡ length_within (Some value) (length part) → part' ≡ part_within (Some value) part → GetOutcome (sound_cloud held free) name part r part' (sound_cloud held free)
+    unfolding get_answer get_part
+    get_found value some r part' a w = record { within = rw a within_part; answer = λ _. rw some a; written = λ _. rw some w; after = λ _. refl } where
+      within_part : IfOk (length_within (Some value) (length part)) (λ n. n ≤ length part)
+      within_part = grind (arith, nat_tests)
 
   pub drop_missing : find held name ≡ None → DropOutcome (sound_cloud held free) name (Err NotHeld) (sound_cloud held free)
   unfolding drop_answer drop_after

@@ -16,8 +16,12 @@ longest_name = 39
 abbrev pub longest_value : ℕ
 longest_value = 1024
 
+-- each name that is held and its value are of limited length
+abbrev pub AllShort : Map (List ℕ) → Type 0
+AllShort held = (n v : List ℕ) → find held n ≡ Some v → (length n ≤ longest_name) × (length v ≤ longest_value)
+
 -- What holds of every cloud, sound or not: no name twice, names and values of limited length, at most 64 places.
 pub record WithinLimits (m : CloudMeaning) : Type 0 where
   pub ascending : Ascending m.held
-  pub short : (n v : List ℕ) → find m.held n ≡ Some v → (length n ≤ longest_name) × (length v ≤ longest_value)
+  pub short : AllShort m.held
   pub places : length m.held + m.free ≤ 64

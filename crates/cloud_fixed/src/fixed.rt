@@ -1,19 +1,22 @@
 //! The fixed cloud.
 
 ghost use Rattle.std.specs.Prelude.{◌≡◌, ◌≤◌, true, vec_len, vec_capacity};
-ghost use Rattle.cloud_fixed.specs.Places.{entries, all_different};
+ghost use Rattle.bytemap.specs.Map.{all_different, gathered};
+ghost use Rattle.cloud.specs.Meaning.{AllShort};
 
 use crate::place::Place;
 
 pub mod calls;
 mod making;
+mod search;
 
 /// A cloud that keeps each name in a place of its own.
 #[derive(Drop)]
 pub struct FixedCloud {
     places: Vec<Place>,
     limit: usize,
-    ghost distinct: { all_different (entries places.items) ≡ true },
+    ghost distinct: { all_different places.items ≡ true },
+    ghost short: { AllShort (gathered places.items) },
     ghost used: { vec_len places ≤ limit },
     ghost reserved: { limit ≤ vec_capacity places },
     ghost some: { 1 ≤ limit },

@@ -2,8 +2,4 @@
 #![tactic(auto)]
 
 pub mod fixed;
-mod front;
-mod lookup;
-mod name;
 pub mod place;
-mod value;

@@ -1,20 +1,32 @@
 //! A place: a name and its value, in 1,066 bytes without a gap.
 
-ghost use Rattle.std.specs.Prelude.{◌≡◌, ◌≤◌, Bool, length};
-ghost use Rattle.byte_strings.specs.Order.{at_most, below};
-ghost use Rattle.cloud_fixed.specs.Places.{name_of, value_of, entry};
-ghost use Rattle.byte_strings.specs.OrderLaws.{preorder_by, at_most_preorder};
+ghost use Rattle.std.specs.Prelude.{◌≡◌, ◌≤◌, length, take};
+ghost use Rattle.cloud.specs.Meaning.{longest_name, longest_value};
 
-use crate::name::Name;
-use crate::value::Value;
-use byte_strings::compare::{is_at_most, is_below};
-use byte_strings::successor::{Bound, Ordered};
+use byte_strings::named::Named;
+use cloud::limits::{LONGEST_NAME, LONGEST_VALUE};
+use std::marker::Model;
 
 /// Memory for one name of up to 39 bytes and its value of up to 1,024.
+// The bytes stand beside lengths of one and two bytes, since the size of a place is promised.
 #[derive(Drop)]
 pub struct Place {
-    name: Name,
-    value: Value,
+    value_len: u16,
+    name_len: u8,
+    name: [u8; LONGEST_NAME],
+    value: [u8; LONGEST_VALUE],
+}
+
+/// Clauses see the name and the value.
+impl Model for Place {
+    ghost use Rattle.std.specs.Prelude.{◌≤◌, ℕ, List, take};
+    ghost use Rattle.cloud.specs.Meaning.{longest_name, longest_value};
+
+    ghost Value = { List ℕ × List ℕ };
+
+    ghost view = { λ p. (take p.name_len p.name, take p.value_len p.value) };
+
+    ghost invariant = { λ p. (p.name_len ≤ longest_name) × (p.value_len ≤ longest_value) };
 }
 
 impl Place {
@@ -22,54 +34,43 @@ impl Place {
     pub fn size() -> usize
         ensures { result ≡ 1066 }
     {
-        std::mem::size_of::<Place>()
+        size_of::<Place>()
     }
 
     pub(crate) fn new(name: &[u8], value: &[u8]) -> Place
-        requires name { length name.now ≤ 39 }
-        requires value { length value.now ≤ 1024 }
-        ensures { entry result ≡ (name.now, value.now) }
+        requires name { length name.now ≤ longest_name }
+        requires value { length value.now ≤ longest_value }
+        ensures { result ≡ (name.now, value.now) }
     {
         Place {
-            name: Name::new(name),
-            value: Value::new(value),
+            value_len: value.len() as u16,
+            name_len: name.len() as u8,
+            name: padded(name),
+            value: padded(value),
         }
     }
 
-    pub(crate) fn name(&self) -> &[u8]
-        ensures { result.now ≡ name_of self.now }
-    {
-        self.name.as_slice()
-    }
-
     pub(crate) fn value(&self) -> &[u8]
-        ensures { result.now ≡ value_of self.now }
+        ensures { result.now ≡ self.now.1 }
     {
-        self.value.as_slice()
+        &self.value[..self.value_len as usize]
     }
 }
 
-/// Places are ordered by their names.
-impl Ordered for Place {
-    ghost le = { λ p q. at_most (name_of p) (name_of q) };
+impl Named for Place {
+    ghost name = { λ p. p.0 };
 
-    ghost ordered = { preorder_by name_of at_most at_most_preorder };
-
-    fn is_at_most(&self, other: &Place) -> bool {
-        is_at_most(self.name(), other.name())
+    fn name(&self) -> &[u8] {
+        &self.name[..self.name_len as usize]
     }
 }
 
-// What is searched above: these bytes.
-#[derive(Drop)]
-pub(crate) struct Above<'a> {
-    pub(crate) bytes: &'a [u8],
-}
-
-impl<'a> Bound<Place> for Above<'a> {
-    ghost above = { λ a p. below a.bytes.now (name_of p) };
-
-    fn is_below(&self, item: &Place) -> bool {
-        is_below(self.bytes, item.name())
-    }
+// The bytes at the front of an array, and zeros past them.
+fn padded<const N: usize>(bytes: &[u8]) -> [u8; N]
+    requires { length bytes.now ≤ N }
+    ensures { take (length bytes.now) result ≡ bytes.now }
+{
+    let mut all = [0; N];
+    all[..bytes.len()].copy_from_slice(bytes);
+    all
 }

@@ -1,9 +1,9 @@
 //! The row of three clouds.
+use anyhow::Context;
 use cloud_faulty::faulty::FaultyCloud;
 use cloud_fixed::fixed::FixedCloud;
 use row::pair::Pair;
 use row::single::Single;
-use std::alloc::AllocError;
 
 const PLACES: usize = 8;
 
@@ -13,29 +13,26 @@ type Failing = Single<FaultyCloud<FixedCloud>>;
 
 pub(super) type Three = Pair<Plain, Pair<Plain, Failing>>;
 
-fn fixed(rt: &HostRuntime) -> Result<Option<FixedCloud>, AllocError> {
+// What is printed where the clouds are refused.
+const REFUSED: &str = "the clouds were refused";
+
+fn fixed(rt: &HostRuntime) -> anyhow::Result<FixedCloud> {
     let memory = Vec::with_capacity(rt.alloc(), PLACES)?;
-    Ok(FixedCloud::new(memory, PLACES).ok())
+    FixedCloud::new(memory, PLACES).ok().context(REFUSED)
 }
 
 // The script: the first call passes, the second meets silence, and so do some more.
-fn failing(rt: &HostRuntime) -> Result<Option<FaultyCloud<FixedCloud>>, AllocError> {
-    let Some(cloud) = fixed(rt)? else {
-        return Ok(None);
-    };
-    Ok(FaultyCloud::new(cloud, &[0, 1, 1, 1]).ok())
+fn failing(rt: &HostRuntime) -> anyhow::Result<FaultyCloud<FixedCloud>> {
+    FaultyCloud::new(fixed(rt)?, &[0, 1, 1, 1]).ok().context(REFUSED)
 }
 
 /// Two clouds that do what they should, and one that fails after its first call.
-pub(super) fn three(rt: &HostRuntime) -> Result<Option<Three>, AllocError> {
-    let (Some(first), Some(second), Some(third)) = (fixed(rt)?, fixed(rt)?, failing(rt)?) else {
-        return Ok(None);
-    };
-    Ok(Some(Pair {
-        left: Single { cloud: first },
+pub(super) fn three(rt: &HostRuntime) -> anyhow::Result<Three> {
+    Ok(Pair {
+        left: Single { cloud: fixed(rt)? },
         right: Pair {
-            left: Single { cloud: second },
-            right: Single { cloud: third },
+            left: Single { cloud: fixed(rt)? },
+            right: Single { cloud: failing(rt)? },
         },
-    }))
+    })
 }

@@ -2,12 +2,13 @@
 //! offset is read back from the other and checked.
 #![tactic(auto)]
 
-use anyhow::anyhow;
+use anyhow::Context;
 use digest::value::Digest;
 use naming::key::Key;
 use naming::name::Name;
 use naming::stamp::Stamp;
 use row::interface::Row;
+use sha256::kind::Sha256;
 
 mod clouds;
 mod steps;
@@ -19,12 +20,8 @@ const KEY: &[u8; 10] = b"drill/left";
 const OFFSET: &[u8; 3] = b"+20";
 
 fn name(rt: &HostRuntime) -> anyhow::Result<Name> {
-    let Some(key) = Key::new(KEY) else {
-        return Err(anyhow!("no key"));
-    };
-    let Some(stamp) = Stamp::new(1, 1) else {
-        return Err(anyhow!("no stamp"));
-    };
+    let key = Key::new(KEY).context("no key")?;
+    let stamp = Stamp::new(1, 1).context("no stamp")?;
     let name = Name::new(CONTAINER, &key, &stamp);
     println!(rt; "Key drill/left in container 7, first write by party 1.")?;
     steps::print_hex(rt, "Its value is kept under the name", name.as_bytes())?;
@@ -33,7 +30,7 @@ fn name(rt: &HostRuntime) -> anyhow::Result<Name> {
 
 fn walk<R: Row>(rt: &HostRuntime, row: &mut R) -> anyhow::Result<()> {
     let name = name(rt)?;
-    let digest = Digest::of::<sha256::kind::Sha256>(OFFSET);
+    let digest = Digest::of::<Sha256>(OFFSET);
     steps::print_hex(rt, "The offset +20 has the SHA-256", digest.as_bytes())?;
     println!(rt; "")?;
     println!(rt; "The first tractor keeps it on clouds 0 and 2.")?;
@@ -51,9 +48,7 @@ fn walk<R: Row>(rt: &HostRuntime, row: &mut R) -> anyhow::Result<()> {
 
 fn run(rt: &HostRuntime) -> anyhow::Result<()> {
     println!(rt; "Three clouds; cloud 2 does one call and then falls silent.")?;
-    let Some(mut row) = clouds::three(rt)? else {
-        return Err(anyhow!("the clouds were refused"));
-    };
+    let mut row = clouds::three(rt)?;
     walk(rt, &mut row)
 }
 

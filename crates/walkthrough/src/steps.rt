@@ -1,10 +1,13 @@
 //! The steps of the task, each printed.
+use anyhow::Context;
 use digest::value::Digest;
 use naming::name::Name;
 use refusal::Refusal;
 use row::fault::at_cloud;
 use row::interface::Row;
+use sha256::kind::Sha256;
 use std::io;
+use std::iter::successors;
 
 /// A heading, and bytes in hexadecimal.
 pub(super) fn print_hex(rt: &HostRuntime, heading: &str, bytes: &[u8]) -> anyhow::Result<()> {
@@ -30,9 +33,7 @@ fn print_refusal(rt: &HostRuntime, refusal: &Refusal) -> io::Result<()> {
 
 // A cloud's fault, on its way up, becomes the refusal of the step.
 fn put_at<R: Row>(row: &mut R, cloud: usize, name: &Name, value: &[u8]) -> Result<(), Refusal> {
-    let answer = row.put(cloud, name.as_bytes(), value);
-    at_cloud(cloud, answer)?;
-    Ok(())
+    Ok(at_cloud(cloud, row.put(cloud, name.as_bytes(), value))?)
 }
 
 fn get_at<R: Row>(
@@ -41,9 +42,7 @@ fn get_at<R: Row>(
     name: &Name,
     part: &mut [u8],
 ) -> Result<usize, Refusal> {
-    let answer = row.get(cloud, name.as_bytes(), part);
-    let length = at_cloud(cloud, answer)?;
-    Ok(length)
+    Ok(at_cloud(cloud, row.get(cloud, name.as_bytes(), part))?)
 }
 
 /// Keeps the value at a cloud.
@@ -73,7 +72,7 @@ pub(super) fn get<R: Row>(
     print!(rt; "  cloud {cloud}: ")?;
     let mut part = [0; 3];
     match get_at(row, cloud, name, &mut part) {
-        Ok(_) if digest.matches::<sha256::kind::Sha256>(&part) => println!(rt;
+        Ok(_) if digest.matches::<Sha256>(&part) => println!(rt;
             "the 3 bytes with this digest: the offset is right."
         )?,
         Ok(_) => println!(rt; "other bytes: they are not used.")?,
@@ -85,24 +84,17 @@ pub(super) fn get<R: Row>(
 // The cloud's smallest name above a name.
 fn next_name<R: Row>(row: &mut R, cloud: usize, above: &Name) -> Option<Name> {
     let mut place = [0; 39];
-    let Ok(Some(length)) = row.next(cloud, above.as_bytes(), &mut place) else {
-        return None;
-    };
+    let length = row.next(cloud, above.as_bytes(), &mut place).ok()??;
     Name::from_bytes(place.get(0..length)?)
 }
 
 /// Prints the names that a cloud holds, from the first to the last.
 pub(super) fn list<R: Row>(rt: &HostRuntime, row: &mut R, cloud: usize) -> anyhow::Result<()> {
-    let Some(mut last) = Name::from_bytes(b"") else {
-        return Ok(());
-    };
+    let empty = Name::from_bytes(b"").context("no empty name")?;
+    let first = next_name(row, cloud, &empty);
     // No cloud has more than 64 places.
-    for _ in 0..64 {
-        let Some(name) = next_name(row, cloud, &last) else {
-            break;
-        };
+    for name in successors(first, |last| next_name(row, cloud, last)).take(64) {
         print_hex(rt, " ", name.as_bytes())?;
-        last = name;
     }
     Ok(())
 }

@@ -3,15 +3,15 @@
 ghost use Rattle.cloud.specs.Outcomes.{PutOutcome, GetOutcome, DropOutcome, NextOutcome};
 ghost use Rattle.cloud_fixed.specs.Making.{fixed_meaning};
 ghost use Rattle.std.proofs.Common.{arith, rules};
-ghost use Rattle.cloud_fixed.specs.Searched.{within_limits};
+ghost use Rattle.cloud_fixed.specs.Places.{within_limits};
 
 use crate::fixed::FixedCloud;
-use crate::front::write_front;
-use crate::lookup::{index_after, index_of};
-use crate::name::LONGEST_NAME;
 use crate::place::Place;
-use crate::value::LONGEST_VALUE;
+use byte_strings::named::{AboveName, Named};
+use byte_strings::successor::successor;
+use cloud::front::write_value;
 use cloud::interface::Cloud;
+use cloud::limits::{LONGEST_NAME, LONGEST_VALUE};
 use refusal::Cause;
 
 /// A fixed cloud is always sound.
@@ -26,21 +26,21 @@ impl Cloud for FixedCloud {
 
     ghost nexts = { λ s above place r place' t. NextOutcome (fixed_meaning s) above place r place' (fixed_meaning t) };
 
-    ghost limited = { λ s. within_limits s.places.items s.limit s.distinct (omega (arith, s.used, s.places.ok.0)) s.few };
+    ghost limited = { λ s. within_limits s.places.items s.limit s.distinct s.short (omega (arith, s.used, s.places.ok.0)) s.few };
 
-    ghost putting = { first_of (Prim.search rules, Prim.grind (arith, Self.row.coded.inj)) };
+    ghost putting = { λ s name value r t o. o };
 
-    ghost getting = { first_of (Prim.search rules, Prim.grind (arith, Self.row.coded.inj)) };
+    ghost getting = { λ s name part r part' t o. o };
 
-    ghost dropping = { first_of (Prim.search rules, Prim.grind (arith, Self.row.coded.inj)) };
+    ghost dropping = { λ s name r t o. o };
 
-    ghost nexting = { first_of (Prim.search rules, Prim.grind (arith, Self.row.coded.inj)) };
+    ghost nexting = { λ s above place r place' t o. o };
 
     fn put(&mut self, name: &[u8], value: &[u8]) -> Result<(), Cause> {
         if name.len() > LONGEST_NAME || value.len() > LONGEST_VALUE {
             return Err(Cause::TooLong);
         }
-        if let Some(i) = index_of(&self.places, name) {
+        if let Some(i) = self.place_of(name) {
             self.places[i] = Place::new(name, value);
             return Ok(());
         }
@@ -52,31 +52,23 @@ impl Cloud for FixedCloud {
     }
 
     fn get(&mut self, name: &[u8], part: &mut [u8]) -> Result<usize, Cause> {
-        let Some(i) = index_of(&self.places, name) else {
-            return Err(Cause::NotHeld);
-        };
-        let value = self.places[i].value();
-        if value.len() > part.len() {
-            return Err(Cause::TooLong);
-        }
-        write_front(part, value);
-        Ok(value.len())
+        let i = self.place_of(name).ok_or(Cause::NotHeld)?;
+        write_value(self.places[i].value(), part)
     }
 
     fn drop(&mut self, name: &[u8]) -> Result<(), Cause> {
-        let Some(i) = index_of(&self.places, name) else {
-            return Err(Cause::NotHeld);
-        };
+        let i = self.place_of(name).ok_or(Cause::NotHeld)?;
         let _ = self.places.remove(i);
         Ok(())
     }
 
     fn next(&mut self, above: &[u8], place: &mut [u8; 39]) -> Result<Option<usize>, Cause> {
-        let Some(i) = index_after(&self.places, above) else {
+        // A closure for `map` would have to write to the place.
+        let Some(i) = successor(&self.places, &AboveName { bytes: above }) else {
             return Ok(None);
         };
         let name = self.places[i].name();
-        write_front(place, name);
+        place[..name.len()].copy_from_slice(name);
         Ok(Some(name.len()))
     }
 }

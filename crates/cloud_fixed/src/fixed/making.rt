@@ -11,7 +11,7 @@ const MOST_PLACES: usize = 32;
 impl FixedCloud {
     /// An empty cloud with this many places, all free. Refused where they are not 1 to 32 or the memory has not room
     /// for them. What the memory held is let go.
-    pub fn new(memory: Vec<Place>, places: usize) -> Result<FixedCloud, Rejected<Vec<Place>>>
+    pub fn new(mut memory: Vec<Place>, places: usize) -> Result<FixedCloud, Rejected<Vec<Place>>>
         ensures { Made memory places result }
     {
         if places == 0 || places > MOST_PLACES || places > memory.capacity() {
@@ -20,7 +20,6 @@ impl FixedCloud {
                 given: memory,
             });
         }
-        let mut memory = memory;
         memory.clear();
         Ok(FixedCloud {
             places: memory,

@@ -29,18 +29,3 @@ module _ (bytes : List ℕ) (at : ℕ) (part : List ℕ) (room : at + length par
   pub rest_overwritten : (n : ℕ) → drop (at + length part + n) (overwritten bytes at part) ≡ drop (at + length part + n) bytes
   rest_overwritten n =
       sym (drop-drop n (at + length part) (overwritten bytes at part)) ∙ ap (drop n) drop_overwritten ∙ drop-drop n (at + length part) bytes
-
-  -- a second part, right after the first
-  pub overwritten_on : (next : List ℕ) → overwritten (overwritten bytes at part) (at + length part) next ≡ overwritten bytes at (part ++ next)
-  overwritten_on next =
-      let l : at + length part + length next ≡ at + length (part ++ next) = omega (arith, length-append part next) in
-      overwritten_is (overwritten bytes at part) (at + length part) next
-      ∙ ap (λ x. x ++ (next ++ drop (at + length part + length next) (overwritten bytes at part))) take_overwritten
-      ∙ ap (λ x. (take at bytes ++ part) ++ (next ++ x)) (rest_overwritten (length next))
-      ∙ append_assoc (take at bytes) part (next ++ drop (at + length part + length next) bytes)
-      ∙ ap (λ x. take at bytes ++ x) (sym (append_assoc part next (drop (at + length part + length next) bytes)))
-      ∙ ap (λ n. take at bytes ++ ((part ++ next) ++ drop n bytes)) l
-      ∙ sym (overwritten_is bytes at (part ++ next))
-
-  pub written_on : (bytes₁ : List ℕ) (at₁ : ℕ) (next bytes₂ : List ℕ) → at₁ ≡ at + length part → bytes₁ ≡ overwritten bytes at part → bytes₂ ≡ overwritten bytes₁ at₁ next → bytes₂ ≡ overwritten bytes at (part ++ next)
-  written_on bytes₁ at₁ next bytes₂ a b₁ b₂ = b₂ ∙ ap (λ x. overwritten x at₁ next) b₁ ∙ ap (λ n. overwritten (overwritten bytes at part) n next) a ∙ overwritten_on next

@@ -51,8 +51,8 @@ impl LogCloud {
         requires room { self.old.used + (length name.now + 3) ≤ vec_len self.old.bytes }
         ensures { Grown self.old (dropped name.now) self.new }
     {
-        let end = write_dropped(&mut self.bytes, self.used, name).unwrap();
+        let after = write_dropped(&mut self.bytes, self.used, name).unwrap();
         let _ = self.index.remove(place);
-        self.used = end;
+        self.used = after;
     }
 }

@@ -12,8 +12,8 @@ here c =
     appending c.args.self.now _ (le-leb (length n) 39 (placed_short (vec_items c.args.self.now.index) n c.args.place c.requires.placed)) (omega (arith, c.requires.room, length_dropped n))
     c.deref_mut.ensures.value c.write_dropped.ensures
 
-pub unwrap-end-requires : goal.unwrap-end-requires
-unwrap-end-requires c = appended (here (goal.at.unwrap-end-requires c).After-write_dropped)
+pub unwrap-after-requires : goal.unwrap-after-requires
+unwrap-after-requires c = appended (here (goal.at.unwrap-after-requires c).After-write_dropped)
 
 pub invariant_of-self : goal.invariant_of-self
 invariant_of-self c =
@@ -22,8 +22,8 @@ invariant_of-self c =
       few = s.few;
       room = s.room;
       reserved = (omega (arith, s.reserved, c.remove.ensures.len), omega (arith, s.reserved, c.remove.ensures.capacity));
-      sound = sound_dropped (here (goal.at.invariant_of-self c).After-write_dropped) c.unwrap-end.ensures c.args.place c.requires.placed _ c.remove.ensures.items;
+      sound = sound_dropped (here (goal.at.invariant_of-self c).After-write_dropped) c.unwrap-after.ensures c.args.place c.requires.placed _ c.remove.ensures.items;
     }
 
 pub returns : goal.returns
-returns c = grown (here (goal.at.returns c).After-write_dropped) c.unwrap-end.ensures _ refl refl refl
+returns c = grown (here (goal.at.returns c).After-write_dropped) c.unwrap-after.ensures _ refl refl refl

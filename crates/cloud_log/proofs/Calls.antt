@@ -18,11 +18,10 @@ use Rattle.bytemap.proofs.Next.{next_from_least}
 use Rattle.cloud.specs.Outcomes.{Length, length_within, part_within, get_answer, get_part, PutOutcome, GetOutcome, DropOutcome}
 use Rattle.cloud.proofs.Outcomes.{put_full, put_new, put_again, drop_done}
 use Rattle.log_record.specs.Records.{Record, stored, dropped, encoded}
-use Rattle.log_record.specs.Replay.{replayed}
 use Rattle.cloud_log.specs.declared.entry.Entry.{Entry}
 use Rattle.cloud_log.specs.declared.log_cloud.LogCloud.{LogCloud}
-use Rattle.cloud_log.specs.Index.{name_of, names, end_of, value_in, pair_in, place_of, Placed}
-use Rattle.cloud_log.specs.Meaning.{log_of, log_meaning, Logged, Grown, Roomy}
+use Rattle.cloud_log.specs.Index.{name_of, names, end_of, pair_in, place_of, Placed}
+use Rattle.cloud_log.specs.Meaning.{log_meaning, Logged, Grown, Roomy}
 use Rattle.cloud_log.specs.Limits.{count}
 use Rattle.cloud_log.proofs.Standing.{laid_at}
 use Rattle.cloud_log.proofs.Changed.{not_found, found_value, count_put, count_drop}

@@ -1,11 +1,11 @@
 -- The invariant of a log cloud again, after its bytes and its index changed.
-use Rattle.std.proofs.Common.{◌≡◌, ℕ, zero, suc, ◌+◌, ◌-◌, ◌<◌, ◌≤◌, true, List, [], ◌∷◌, ◌++◌, map, length, get_or, take, is_some, IfSome, IfNone, Some, None, vec_items, vec_len, Option, sym, refl, ap, subst, ◌∙◌, arith}
+use Rattle.std.proofs.Common.{◌≡◌, ℕ, zero, suc, ◌+◌, ◌-◌, ◌<◌, ◌≤◌, true, List, [], ◌∷◌, ◌++◌, length, get_or, take, is_some, IfSome, IfNone, Some, None, vec_items, vec_len, Option, sym, refl, ap, subst, ◌∙◌, arith}
 use Rattle.std.specs.Vec.{with_items}
 use Rattle.std.proofs.lemmas.List.{with_items_is, length-map}
 use Rattle.std.proofs.lemmas.List.Edits.{length-remove}
 use Rattle.bytemap.specs.Map.{gathered}
 use Rattle.log_record.specs.Records.{Record, stored, dropped, valid, encoded}
-use Rattle.log_record.specs.Replay.{done, replayed}
+use Rattle.log_record.specs.Replay.{replayed}
 use Rattle.log_record.specs.Written.{overwritten, Written}
 use Rattle.log_record.proofs.Overwriting.{length_overwritten}
 use Rattle.log_record.proofs.Outcomes.{written_is}

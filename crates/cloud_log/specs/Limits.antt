@@ -4,7 +4,7 @@ use Rattle.std.proofs.Common.{sym, ap, subst, ◌∙◌, ⊎_elim, arith, length
 use Rattle.std.specs.Str.{bytes_eq}
 use Rattle.std.proofs.lemmas.List.{length-map}
 use Rattle.std.proofs.lemmas.Bool.{and_parts, leb-true, cases_Bool}
-use Rattle.bytemap.specs.Map.{find, Ascending, gathered}
+use Rattle.bytemap.specs.Map.{find, Ascending}
 use Rattle.bytemap.proofs.Find.{same_is, find_empty, find_cons, find_gathered, ascending_gathered}
 use Rattle.bytemap.proofs.Pairs.{length_gathered}
 use Rattle.cloud.specs.Meaning.{WithinLimits}

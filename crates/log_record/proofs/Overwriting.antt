@@ -1,12 +1,8 @@
 -- A part written into bytes.
-use Rattle.std.proofs.Common.{◌≡◌, ℕ, ◌+◌, ◌≤◌, List, ◌++◌, length, take, drop, sym, refl, ap, ◌∙◌, append_assoc, arith, rules, length-append, length-drop}
+use Rattle.std.proofs.Common.{◌≡◌, ℕ, ◌+◌, ◌≤◌, List, ◌++◌, length, take, drop, ap, append_assoc, arith}
 use Rattle.std.proofs.lemmas.Grind.{common_steps}
-use Rattle.std.proofs.lemmas.List.{take_at, drop_at, drop-drop, length-take-le}
+use Rattle.std.proofs.lemmas.List.{drop_at, drop-drop}
 use Rattle.log_record.specs.Written.{overwritten}
-
-pub overwritten_is : (bytes : List ℕ) (at : ℕ) (part : List ℕ) → overwritten bytes at part ≡ take at bytes ++ (part ++ drop (at + length part) bytes)
-unfolding overwritten
-overwritten_is bytes at part = refl
 
 module _ (bytes : List ℕ) (at : ℕ) (part : List ℕ) (room : at + length part ≤ length bytes) where
   pub take_overwritten : take (at + length part) (overwritten bytes at part) ≡ take at bytes ++ part

@@ -1,7 +1,6 @@
-use Rattle.std.proofs.Common.{◌≡◌, ◌+◌, get_or, take, drop, ap, ◌∙◌, refl, subst, sym, arith, rules}
+use Rattle.std.proofs.Common.{get_or, refl, arith, rules}
 use Rattle.std.proofs.lemmas.List.{get_or_default}
-use Rattle.cloud_log.specs.Index.{record_size}
-use Rattle.cloud_log.proofs.ClosingUp.{Closing, Turn, turn, closing_none, closing_more, closing_all}
+use Rattle.cloud_log.proofs.ClosingUp.{Turn, turn, closing_none, closing_more, closing_all}
 use Rattle.cloud_log.proofs.closing.close_up.Goals as goal
 use Rattle.cloud_log.proofs.closing.close_up.Goals.{After-entry-item}
 

@@ -1,8 +1,8 @@
-use Rattle.std.proofs.Common.{Some, length, vec_items, refl, arith}
+use Rattle.std.proofs.Common.{length, vec_items, refl, arith}
 use Rattle.std.proofs.lemmas.Bool.{le-leb}
 use Rattle.log_record.specs.Records.{dropped}
 use Rattle.log_record.proofs.ReadBack.{length_dropped}
-use Rattle.cloud_log.proofs.State.{Appending, appending, appended, grown, placed_within, placed_short, sound_dropped}
+use Rattle.cloud_log.proofs.State.{Appending, appending, appended, grown, placed_short, sound_dropped}
 use Rattle.cloud_log.proofs.log_cloud.LogCloud.append_dropped.Goals as goal
 use Rattle.cloud_log.proofs.log_cloud.LogCloud.append_dropped.Goals.{After-write_dropped}
 

@@ -1,5 +1,4 @@
-use Rattle.std.proofs.Common.{◌≡◌, length, get_or, sym, ap, ◌∙◌, refl, arith, rules}
-use Rattle.cloud.specs.Outcomes.{over}
+use Rattle.std.proofs.Common.{◌≡◌, length, get_or, sym, ap, ◌∙◌}
 use Rattle.cloud_log.specs.Index.{name_of}
 use Rattle.cloud_log.specs.Meaning.{log_meaning}
 use Rattle.cloud.proofs.Outcomes.{next_end, next_found}

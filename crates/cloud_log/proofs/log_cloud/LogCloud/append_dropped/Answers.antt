@@ -15,15 +15,8 @@ here c =
 pub unwrap-after-requires : goal.unwrap-after-requires
 unwrap-after-requires c = appended (here (goal.at.unwrap-after-requires c).After-write_dropped)
 
-pub invariant_of-self : goal.invariant_of-self
-invariant_of-self c =
-    let s = c.args.self.now in
-    record {
-      few = s.few;
-      room = s.room;
-      reserved = (omega (arith, s.reserved, c.remove.ensures.len), omega (arith, s.reserved, c.remove.ensures.capacity));
-      sound = sound_dropped (here (goal.at.invariant_of-self c).After-write_dropped) c.unwrap-after.ensures c.args.place c.requires.placed _ c.remove.ensures.items;
-    }
+pub invariant_of-self-clause-sound : goal.invariant_of-self-clause-sound
+invariant_of-self-clause-sound c = sound_dropped (here (goal.at.invariant_of-self-clause-sound c).After-write_dropped) c.unwrap-after.ensures c.args.place c.requires.placed _ c.remove.ensures.items
 
 pub returns : goal.returns
 returns c = grown (here (goal.at.returns c).After-write_dropped) c.unwrap-after.ensures _ refl refl refl

@@ -1,8 +1,8 @@
-use Rattle.std.proofs.Common.{◌≡◌, length, vec_items, refl, ap, rules, arith}
+use Rattle.std.proofs.Common.{◌≡◌, length, refl, ap, rules, arith}
 use Rattle.log_record.specs.Records.{stored}
 use Rattle.log_record.proofs.Outcomes.{stored_valid}
 use Rattle.log_record.proofs.ReadBack.{length_stored}
-use Rattle.cloud_log.proofs.State.{Appending, appending, appended, grown, placed_within, one_more, sound_stored}
+use Rattle.cloud_log.proofs.State.{Appending, appending, appended, grown, one_more, sound_stored}
 use Rattle.cloud_log.proofs.log_cloud.LogCloud.append_stored.Goals as goal
 use Rattle.cloud_log.proofs.log_cloud.LogCloud.append_stored.Goals.{After-write_stored}
 
@@ -14,27 +14,22 @@ here c =
 pub unwrap-end-requires : goal.unwrap-end-requires
 unwrap-end-requires c = appended (here (goal.at.unwrap-end-requires c).After-write_stored)
 
-pub forget-requires : goal.forget-requires
-forget-requires c = let s = c.args.self.now in placed_within (vec_items s.index) c.args.name.now c.args.place _ s.index.ok.0 c.requires.placed
-
 pub push_reserved-requires : goal.push_reserved-requires
 push_reserved-requires c =
     let s = c.args.self.now in
     omega (arith, one_more s c.args.name.now c.args.place c.requires.placed c.requires.free, ap length c.forget.ensures.items, c.forget.new.index.ok.0, s.reserved, c.forget.ensures.capacity)
 
-pub invariant_of-self : goal.invariant_of-self
-invariant_of-self c =
-    let s = c.args.self.now in
+pub invariant_of-self-clause-reserved : goal.invariant_of-self-clause-reserved
+invariant_of-self-clause-reserved c =
+    let s = c.args.self.now in (
+      omega (arith, one_more s c.args.name.now c.args.place c.requires.placed c.requires.free, ap length c.forget.ensures.items, c.forget.new.index.ok.0, c.push_reserved.ensures.len),
+      omega (arith, s.reserved, c.forget.ensures.capacity, c.push_reserved.ensures.capacity),
+    )
+
+pub invariant_of-self-clause-sound : goal.invariant_of-self-clause-sound
+invariant_of-self-clause-sound c =
     let n : c.unwrap.result ≡ c.args.name.now = search rules in
-    let a = here (goal.at.invariant_of-self c).After-write_stored in record {
-      few = s.few;
-      room = s.room;
-      reserved = (
-        omega (arith, one_more s c.args.name.now c.args.place c.requires.placed c.requires.free, ap length c.forget.ensures.items, c.forget.new.index.ok.0, c.push_reserved.ensures.len),
-        omega (arith, s.reserved, c.forget.ensures.capacity, c.push_reserved.ensures.capacity),
-      );
-      sound = sound_stored a c.unwrap-end.ensures c.args.place c.requires.placed _ _ _ c.forget.ensures.items c.push_reserved.ensures.items n refl refl;
-    }
+    sound_stored (here (goal.at.invariant_of-self-clause-sound c).After-write_stored) c.unwrap-end.ensures c.args.place c.requires.placed _ _ _ c.forget.ensures.items c.push_reserved.ensures.items n refl refl
 
 pub returns : goal.returns
 returns c = grown (here (goal.at.returns c).After-write_stored) c.unwrap-end.ensures _ refl refl refl

@@ -12,15 +12,8 @@ close_up-self-requires c =
     let u = laid_higher b 0 s.used (length b) (vec_items s.index) (omega (arith, c.deref_mut.ensures.len, s.sound.within, s.bytes.ok.0)) t in
     subst (λ x. laid b 0 (length b) x ≡ true) (sym c.deref_mut-then-len-self.ensures.value) u
 
-pub invariant_of-self : goal.invariant_of-self
-invariant_of-self c =
-    let s = c.args.self.now in
-    record {
-      few = s.few;
-      room = s.room;
-      reserved = s.reserved;
-      sound = closed_sound s _ _ _ _ _ c.deref_mut.ensures.value c.deref_mut-then-len-self.ensures.value (omega arith) (omega arith) c.close_up-self.ensures;
-    }
+pub invariant_of-self-clause-sound : goal.invariant_of-self-clause-sound
+invariant_of-self-clause-sound c = closed_sound c.args.self.now _ _ _ _ _ c.deref_mut.ensures.value c.deref_mut-then-len-self.ensures.value (omega arith) (omega arith) c.close_up-self.ensures
 
 pub returns-then-len-self : goal.returns-then-len-self
 returns-then-len-self c =

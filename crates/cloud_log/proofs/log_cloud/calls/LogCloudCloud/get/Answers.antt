@@ -4,7 +4,6 @@ use Rattle.refusal.specs.declared.Cause.TheVariants.{NotHeld}
 use Rattle.cloud.proofs.Outcomes.{get_missing}
 use Rattle.cloud_log.specs.Index.{names, Placed}
 use Rattle.cloud_log.specs.Meaning.{log_meaning}
-use Rattle.cloud_log.proofs.State.{placed_within}
 use Rattle.cloud_log.proofs.Changed.{not_found, found_value}
 use Rattle.cloud_log.proofs.Calls.{placed, got}
 use Rattle.cloud_log.proofs.log_cloud.calls.LogCloudCloud.get.Goals as goal
@@ -22,11 +21,6 @@ found : (c : In_ok-place) → Placed (names (vec_items c.args.self.now.index)) c
 found c =
     let i : c.position.result ≡ Some c.in_ok-place.place = grind arith in
     placed c.args.self.now c.args.name.now c.deref.ensures.value (sym i ∙ c.position.ensures)
-
-pub value_at-requires : goal.value_at-requires
-value_at-requires c =
-    let s = c.args.self.now in
-    placed_within (vec_items s.index) c.args.name.now (Some c.in_ok-place.place) _ s.index.ok.0 (found (goal.at.value_at-requires c).In_ok-place)
 
 pub returns : goal.returns
 returns c =

@@ -1,28 +1,26 @@
 -- Closing up, one record at a time.
-use Rattle.std.proofs.Common.{◌≡◌, ℕ, ◌+◌, ◌-◌, ◌*◌, ◌<◌, ◌≤◌, true, leb, List, [], ◌∷◌, ◌++◌, map, length, get_or, take, drop, set, sym, refl, ap, ◌∙◌, subst, append_assoc, append-nil, arith, length-drop, length-set}
+use Rattle.std.proofs.Common.{◌≡◌, ℕ, ◌+◌, ◌-◌, ◌*◌, ◌<◌, ◌≤◌, true, List, [], ◌∷◌, ◌++◌, map, length, get_or, take, drop, set, sym, refl, ap, ◌∙◌, subst, append_assoc, append-nil, arith, length-drop, length-set}
 use lib.Seq.{paste}
-use Rattle.std.specs.Str.{bytes_eq}
+use Rattle.std.specs.List.{copy_within}
 use Rattle.std.proofs.lemmas.List.{take_at, drop_at, take-take, drop-take, length-take-le, take_more_set, drop-set-lt, drop_more, take_all, drop_all, map_push, flat_map_more}
-use Rattle.std.proofs.lemmas.Bool.{and_parts, leb-true}
 use Rattle.std.proofs.lemmas.Slice.Eq.{bytes_eq-Decides}
 use Rattle.log_record.specs.Records.{encoded, all_encoded}
 use Rattle.log_record.specs.Replay.{stored_pair}
 use Rattle.log_record.specs.Written.{overwritten}
-use Rattle.log_record.proofs.Overwriting.{overwritten_is, take_overwritten, rest_overwritten, length_overwritten}
+use Rattle.log_record.proofs.Overwriting.{take_overwritten, rest_overwritten, length_overwritten}
 use Rattle.cloud_log.specs.declared.entry.Entry.{Entry}
 use Rattle.cloud_log.specs.Index.{name_of, record_size, end_of, record_bytes, pair_in, record_in, recorded, laid}
 use Rattle.cloud_log.specs.Closing.{Closed}
-use Rattle.cloud_log.specs.Standing.{name_short, moved_pair, moved_recorded, Head, head_of, laid_none, laid_lower, laid_push, laid_same_front, laid_same_rest, laid_within}
+use Rattle.cloud_log.specs.Limits.{Head, head_of}
+use Rattle.cloud_log.proofs.Standing.{moved_pair, moved_recorded, laid_none, laid_lower, laid_push, laid_same_front, laid_same_rest, laid_within}
 
 -- a part of bytes, copied to another place in them
-pub pasted : (b : List ℕ) (from n to : ℕ) → from + n ≤ length b → paste b to (drop from b) (from + n - from) ≡ overwritten b to (take n (drop from b))
+pasted : (b : List ℕ) (from n to : ℕ) → from + n ≤ length b → copy_within b from (from + n) to ≡ overwritten b to (take n (drop from b))
+unfolding overwritten
 pasted b from n to l =
     let k : from + n - from ≡ n = omega arith in
     let m : length (take n (drop from b)) ≡ n = length-take-le n (drop from b) (omega (arith, length-drop from b)) in
-    ap (paste b to (drop from b)) k
-    ∙ append_assoc (take to b) (take n (drop from b)) (drop (to + n) b)
-    ∙ ap (λ j. take to b ++ (take n (drop from b) ++ drop (to + j) b)) (sym m)
-    ∙ sym (overwritten_is b to (take n (drop from b)))
+    ap (paste b to (drop from b)) k ∙ append_assoc (take to b) (take n (drop from b)) (drop (to + n) b) ∙ rw m
 
 -- The first i records are moved.
 pub record Closing (b₀ : List ℕ) (es₀ : List Entry) (b : List ℕ) (es : List Entry) (i end : ℕ) : Type 0 where
@@ -54,8 +52,6 @@ closing_all b₀ es₀ b es i end l u c =
 pub record Turn (b : List ℕ) (end : ℕ) (e : Entry) : Type 0 where
   pub down : end ≤ e.offset
   pub until : end_of e ≤ length b
-  pub few : e.size ≤ 1024
-  pub most : record_size e ≤ 1066
   pub stands : recorded b e ≡ true
 
 module _ (b₀ : List ℕ) (es₀ : List Entry) (b : List ℕ) (es : List Entry) (i end : ℕ) (c : Closing b₀ es₀ b es i end) (lt : i < length es) (e : Entry) (is : e ≡ get_or es i e) where
@@ -68,9 +64,7 @@ module _ (b₀ : List ℕ) (es₀ : List Entry) (b : List ℕ) (es : List Entry)
   pub turn : Turn b end e
   turn =
       let h = next_head in
-      let r = and_parts (bytes_eq (record_bytes b e) (encoded (record_in b e))) (leb e.size 1024) h.stands in
-      let s = leb-true e.size 1024 r.1 in
-      record { down = h.from; until = laid_within b (end_of e) (length b) (drop (i + 1) es) h.rest; few = s; most = omega (arith, name_short e); stands = h.stands }
+      record { down = h.from; until = laid_within b (end_of e) (length b) (drop (i + 1) es) h.rest; stands = h.stands }
 
   -- its bytes
   part : List ℕ
@@ -82,7 +76,7 @@ module _ (b₀ : List ℕ) (es₀ : List Entry) (b : List ℕ) (es : List Entry)
 
   part_encoded : part ≡ encoded (record_in b e)
   unfolding part
-  part_encoded = (bytes_eq-Decides _ _).0 (and_parts (bytes_eq (record_bytes b e) (encoded (record_in b e))) (leb e.size 1024) turn.stands).0
+  part_encoded = (bytes_eq-Decides _ _).0 turn.stands
 
   module _ (b' : List ℕ) (e' : Entry) (written : b' ≡ overwritten b end (record_bytes b e)) (named : name_of e' ≡ name_of e) (sized : e'.size ≡ e.size) (placed : e'.offset ≡ end) where
     room : end + length (record_bytes b e) ≤ length b
@@ -126,13 +120,13 @@ module _ (b₀ : List ℕ) (es₀ : List Entry) (b : List ℕ) (es : List Entry)
     unfolding before
     moved_pairs =
         let f = (laid_same_front b b' 0 end (take i es) c.front front_same).1 in
-        let p = moved_pair b b' e e' named sized moved_bytes in
+        let p = moved_pair b b' e e' named moved_bytes in
         ap (map (pair_in b')) (take_more_set es i e' lt) ∙ map_push (pair_in b') (take i es) e' ∙ (λ j. f j ++ (p j ∷ []))
 
     more_front : laid b' 0 (end + record_size e) (take (i + 1) (set es i e')) ≡ true
     more_front =
         let f = (laid_same_front b b' 0 end (take i es) c.front front_same).0 in
-        let r = moved_recorded b b' e e' named sized moved_bytes turn.stands in
+        let r = moved_recorded b b' e e' named moved_bytes turn.stands in
         let g = laid_push b' 0 end (end + record_size e) (take i es) e' f (omega (arith, placed)) r (omega (arith, placed, same_size)) in
         subst (λ x. laid b' 0 (end + record_size e) x ≡ true) (sym (take_more_set es i e' lt)) g
 
@@ -172,8 +166,8 @@ module _ (b₀ : List ℕ) (es₀ : List Entry) (b : List ℕ) (es : List Entry)
         ∙ ap (λ x. before ++ map (pair_in b) x) (sym next_is)
         ∙ c.kept
 
-    pub closing_more : Closing b₀ es₀ b' (set es i e') (i + 1) (end + record_size e)
-    closing_more =
+    closing_moved : Closing b₀ es₀ b' (set es i e') (i + 1) (end + record_size e)
+    closing_moved =
         let t = turn in
         record {
           all_bytes = same_length ∙ c.all_bytes;
@@ -182,5 +176,12 @@ module _ (b₀ : List ℕ) (es₀ : List Entry) (b : List ℕ) (es : List Entry)
           packed = more_packed;
           rest = more_rest;
           kept = more_kept;
-          small = omega (arith, c.small, t.most);
+          small = omega (arith, c.small, e.short, e.small);
         }
+
+  -- the record is copied to the end of those before it, and its entry says so
+  pub closing_more : (b' : List ℕ) (e' : Entry) (n : ℕ) → n ≡ record_size e → b' ≡ copy_within b e.offset (e.offset + n) end → name_of e' ≡ name_of e → e'.size ≡ e.size → e'.offset ≡ end
+      → Closing b₀ es₀ b' (set es i e') (i + 1) (end + n)
+  closing_more b' e' n k w named sized placed =
+      let copied = w ∙ ap (λ m. copy_within b e.offset (e.offset + m) end) k ∙ pasted b e.offset (record_size e) end (let t = turn in omega (arith, t.until)) in
+      subst (λ m. Closing b₀ es₀ b' (set es i e') (i + 1) (end + m)) (sym k) (closing_moved b' e' copied named sized placed)

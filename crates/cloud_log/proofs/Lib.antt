@@ -1,1 +1,5 @@
+pub mod Standing
+pub mod Changed
+pub mod State
+pub mod Calls
 pub mod ClosingUp

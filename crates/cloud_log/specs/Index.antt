@@ -1,16 +1,12 @@
 -- The index of a log: where the last record of each held name lies in the bytes.
 use Rattle.std.specs.Prelude.{◌≡◌, ℕ, suc, ◌+◌, ◌<◌, Bool, ◌&&◌, List, [], ◌∷◌, ◌++◌, map, length, take, drop, Some, None, Option, ◌≢◌, nat_le, slice_index_or}
+use Rattle.std.specs.List.{position}
 use Rattle.std.specs.Str.{bytes_eq}
-use Rattle.cloud.specs.Meaning.{longest_value}
 use Rattle.log_record.specs.Records.{Record, stored, encoded}
-use Rattle.cloud_log.specs.declared.name.Name.{Name}
 use Rattle.cloud_log.specs.declared.entry.Entry.{Entry}
 
-abbrev pub bytes_of : Name → List ℕ
-bytes_of n = take n.len n.bytes
-
 abbrev pub name_of : Entry → List ℕ
-name_of e = bytes_of e.name
+name_of e = e.name
 
 -- how many bytes the entry's record takes up: three are lengths
 abbrev pub record_size : Entry → ℕ
@@ -36,7 +32,7 @@ record_in bytes e = stored (name_of e) (value_in bytes e)
 
 -- what stands where the entry says is such a record
 abbrev pub recorded : List ℕ → Entry → Bool
-recorded bytes e = bytes_eq (record_bytes bytes e) (encoded (record_in bytes e)) && nat_le e.size longest_value
+recorded bytes e = bytes_eq (record_bytes bytes e) (encoded (record_in bytes e))
 
 -- The entries' records stand one after another, in the order of the entries, none before `low` or past `high`.
 unfoldable pub laid : List ℕ → ℕ → ℕ → List Entry → Bool
@@ -47,6 +43,10 @@ laid bytes low high (e ∷ es) = nat_le low e.offset && (recorded bytes e && lai
 
 abbrev pub names : List Entry → List (List ℕ)
 names es = map name_of es
+
+-- the first place where a name stands
+abbrev pub place_of : List Entry → List ℕ → Option ℕ
+place_of es name = position (λ e. bytes_eq (name_of e) name) es
 
 -- where a name stands; none where it does not
 abbrev pub Placed : List (List ℕ) → List ℕ → Option ℕ → Type 0

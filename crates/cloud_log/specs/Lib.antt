@@ -1,8 +1,6 @@
 pub mod Index
 pub mod Closing
+pub mod Sound
 pub mod Meaning
 pub mod Making
-pub mod Calls
-pub mod Standing
-pub mod Sound
-pub mod State
+pub mod Limits

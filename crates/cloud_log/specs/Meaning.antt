@@ -3,7 +3,7 @@ use Rattle.std.specs.Prelude.{◌≡◌, ℕ, ◌+◌, ◌-◌, ◌≤◌, true,
 use Rattle.cloud.specs.Meaning.{CloudMeaning}
 use Rattle.cloud.specs.Outcomes.{Done}
 use Rattle.log_record.specs.Records.{Record, encoded}
-use Rattle.log_record.specs.Replay.{replayed}
+use Rattle.log_record.specs.Replay.{done, replayed}
 use Rattle.cloud_log.specs.Index.{names}
 use Rattle.cloud_log.specs.declared.log_cloud.LogCloud.{LogCloud}
 
@@ -30,6 +30,13 @@ pub record Logged (c : LogCloud) (r : Record) (answer : Done) (c' : LogCloud) : 
   pub appended : Appended c r answer c'
 
 -- ---- within the cloud
+
+-- the cloud with this record appended
+pub record Grown (c : LogCloud) (r : Record) (c' : LogCloud) : Type 0 where
+  pub same_memory : vec_len c'.bytes ≡ vec_len c.bytes
+  pub log : log_of c' ≡ log_of c ++ encoded r
+  pub held : replayed (log_of c') ≡ done (replayed (log_of c)) r
+  pub same_places : c'.places ≡ c.places
 
 -- the same cloud with so many free bytes, closed up where they were fewer
 pub record Roomy (c c' : LogCloud) (size : ℕ) : Type 0 where

@@ -1,105 +1,14 @@
--- Bytes and an index that belong together, and what a record more, a record less and closing up make of them.
-use Rattle.std.specs.Prelude.{◌≡◌, ℕ, zero, suc, ◌+◌, ◌<◌, ◌≤◌, Bool, true, false, cond, leb, List, [], ◌∷◌, ◌++◌, map, length, get_or, take, drop, Some, None, Option, nat_le, slice_index_or, refl}
-use Rattle.std.proofs.Common.{sym, ap, subst, ◌∙◌, ⊎_elim, arith, length-take, length-drop}
-use Rattle.std.specs.Str.{bytes_eq}
-use Rattle.std.proofs.lemmas.List.{take_at, drop_at, take-take, drop-take, length-take-le, length-map, length_push, get_or-map, map-append, map_push, take-map, drop-map}
-use Rattle.std.proofs.lemmas.Bool.{and_parts, and_from, leb-true, le-leb, cases_Bool}
-use Rattle.std.proofs.lemmas.Slice.Eq.{bytes_eq-Decides}
-use Rattle.bytemap.specs.Map.{find, insert, remove, gathered, Distinct}
-use Rattle.bytemap.proofs.Find.{same_self, same_is, apart, find_empty, find_cons, find_gathered}
-use Rattle.bytemap.proofs.Pairs.{find_push, distinct_push, find_at, find_removed, distinct_removed, gathered_insert, gathered_remove, length_gathered}
-use Rattle.log_record.specs.Records.{Record, stored, dropped, valid, encoded, all_valid, Whole}
-use Rattle.log_record.specs.Replay.{done, replayed, stored_pair}
-use Rattle.log_record.specs.Written.{overwritten}
-use Rattle.log_record.proofs.ReadBack.{length_stored, value_encoded, whole_from, whole_push}
-use Rattle.log_record.proofs.Replay.{replayed_push, replayed_stored}
-use Rattle.log_record.proofs.Overwriting.{take_overwritten, length_overwritten}
+-- Bytes and an index that belong together.
+use Rattle.std.specs.Prelude.{◌≡◌, ℕ, ◌≤◌, true, List, [], ◌∷◌, map, length, take}
+use Rattle.std.specs.Coded.{coded_ℕ, coded_bool, coded_list, coded×, coded_option, Coded-set, le_prop, Unit-prop, ×_prop}
+use Rattle.bytemap.specs.Map.{gathered, Distinct}
+use Rattle.log_record.specs.Records.{Whole}
+use Rattle.log_record.specs.Replay.{replayed}
 use Rattle.cloud_log.specs.declared.entry.Entry.{Entry}
-use Rattle.cloud_log.specs.Index.{name_of, names, record_size, end_of, record_bytes, value_in, pair_in, record_in, recorded, laid, Placed, without}
-use Rattle.cloud_log.specs.Closing.{Closed}
-use Rattle.cloud_log.specs.Standing.{name_short, head_of, laid_push, laid_higher, laid_removed, laid_same_front}
+use Rattle.cloud_log.specs.Index.{pair_in, laid}
 
--- ---- pairs by name
-
-abbrev keys : List (List ℕ × List ℕ) → List (List ℕ)
-keys ps = map (λ p. p.0) ps
-
-keys_of : (b : List ℕ) (es : List Entry) → keys (map (pair_in b) es) ≡ names es
-keys_of b [] = refl
-keys_of b (e ∷ es) = ap (λ x. name_of e ∷ x) (keys_of b es)
-
-second_at : (b : List ℕ) (es : List Entry) (i : ℕ) → (get_or (map (pair_in b) es) i ([], [])).1 ≡ slice_index_or (map (value_in b) es) i []
-second_at b [] i = refl
-second_at b (e ∷ es) zero = refl
-second_at b (e ∷ es) (suc i) = second_at b es i
-
-absent : (ps : List (List ℕ × List ℕ)) (name : List ℕ) → Placed (keys ps) name None → find ps name ≡ None
-absent [] name a = find_empty name
-absent (p ∷ ps) name a =
-    let f : bytes_eq p.0 name ≡ false = apart p.0 name (λ e. a 0 (omega arith) e) in
-    find_cons p ps name ∙ rw f (absent ps name (λ k l e. a (suc k) (omega arith) e))
-
-module _ (ps : List (List ℕ × List ℕ)) (name : List ℕ) (d : Distinct ps) where
-  module _ (i : ℕ) (a : Placed (keys ps) name (Some i)) where
-    inside : i < length ps
-    inside = omega (arith, a.0, length-map ps (λ p. p.0))
-
-    key_at : (get_or ps i ([], [])).0 ≡ name
-    key_at = sym (get_or-map (λ p. p.0) ps i ([], []) [] inside) ∙ a.1
-
-    found_at : find ps name ≡ Some (get_or ps i ([], [])).1
-    found_at = ap (find ps) (sym key_at) ∙ find_at ps i ([], []) inside d
-
-  find_without : (place : Option ℕ) → Placed (keys ps) name place → (j : List ℕ) → find (without ps place) j ≡ cond (bytes_eq name j) None (find ps j)
-  find_without None a j =
-      ⊎_elim (λ (t : bytes_eq name j ≡ true). rw t (ap (find ps) (sym (same_is name j t)) ∙ absent ps name a)) (λ (f : bytes_eq name j ≡ false). rw f) (cases_Bool (bytes_eq name j))
-  find_without (Some i) a j =
-      find_removed ps i ([], []) j (inside i a) d ∙ ap (λ k. cond (bytes_eq k j) None (find ps j)) (key_at i a)
-
-  distinct_without : (place : Option ℕ) → Placed (keys ps) name place → Distinct (without ps place)
-  distinct_without None a = d
-  distinct_without (Some i) a = distinct_removed ps i ([], []) (inside i a) d
-
-  -- and then the name's pair at the end
-  fresh : (place : Option ℕ) → Placed (keys ps) name place → find (without ps place) name ≡ None
-  fresh place a = find_without place a name ∙ rw (same_self name)
-
-  gathered_put : (place : Option ℕ) → Placed (keys ps) name place → (value : List ℕ) → gathered (without ps place ++ ((name, value) ∷ [])) ≡ insert (gathered ps) name value
-  gathered_put place a value =
-      gathered_insert ps _ name value
-      (λ j. find_push (without ps place) name value j (fresh place a) ∙ ap (cond (bytes_eq name j) (Some value)) (find_without place a j) ∙ both (bytes_eq name j) (find ps j))
-    where
-      both : (t : Bool) (o : Option (List ℕ)) → cond t (Some value) (cond t None o) ≡ cond t (Some value) o
-      both true o = refl
-      both false o = refl
-
-  distinct_put : (place : Option ℕ) → Placed (keys ps) name place → (value : List ℕ) → Distinct (without ps place ++ ((name, value) ∷ []))
-  distinct_put place a value = distinct_push (without ps place) name value (distinct_without place a) (fresh place a)
-
-  gathered_drop : (place : Option ℕ) → Placed (keys ps) name place → gathered (without ps place) ≡ remove (gathered ps) name
-  gathered_drop place a = gathered_remove ps (without ps place) name (find_without place a)
-
--- ---- entries less one
-
-laid_without : (b : List ℕ) (low high : ℕ) (es : List Entry) (place : Option ℕ) → laid b low high es ≡ true → laid b low high (without es place) ≡ true
-laid_without b low high es None t = t
-laid_without b low high es (Some i) t = laid_removed b low high es i t
-
-map_without : {X Y : Type 0} (f : X → Y) (xs : List X) (place : Option ℕ) → map f (without xs place) ≡ without (map f xs) place
-map_without f xs None = refl
-map_without f xs (Some i) =
-    let t = sym (take-map f i xs) in
-    let d = sym (drop-map f (suc i) xs) in
-    map-append f (take i xs) (drop (suc i) xs) ∙ (λ j. t j ++ d j)
-
--- ---- bytes with their index
-
--- a value takes up no more than the entry says
-value_short : (b : List ℕ) (e : Entry) → recorded b e ≡ true → length (value_in b e) ≤ 1024
-value_short b e r =
-    let s = leb-true e.size 1024 (and_parts (bytes_eq (record_bytes b e) (encoded (record_in b e))) (nat_le e.size 1024) r).1 in
-    omega (arith, length-drop (length (name_of e) + 3) (record_bytes b e), length-take (record_size e) (drop e.offset b))
-
+-- The first `used` bytes are whole records. The entries' records stand in them in order, no name twice, and give what
+-- they read back to.
 pub record Sound (b : List ℕ) (used : ℕ) (es : List Entry) : Type 0 where
   pub within : used ≤ length b
   pub whole : Whole (take used b)
@@ -107,175 +16,25 @@ pub record Sound (b : List ℕ) (used : ℕ) (es : List Entry) : Type 0 where
   pub different : Distinct (map (pair_in b) es)
   pub same : replayed (take used b) ≡ gathered (map (pair_in b) es)
 
--- the values are within their limits
-laid_valid : (b : List ℕ) (low high : ℕ) (es : List Entry) → laid b low high es ≡ true → all_valid (map stored_pair (map (pair_in b) es)) ≡ true
-laid_valid b low high [] t = refl
-laid_valid b low high (e ∷ es) t =
-    let h = head_of b low high e es t in
-    let s = value_short b e h.stands in
-    and_from _ _ (and_from _ _ (le-leb _ 39 (name_short e)) (le-leb _ 1024 s)) (laid_valid b (end_of e) high es h.rest)
+-- ---- there is one proof of it at most
 
--- and so is what is found
-found_short : (b : List ℕ) (low high : ℕ) (es : List Entry) → laid b low high es ≡ true → (n v : List ℕ) → find (map (pair_in b) es) n ≡ Some v → (length n ≤ 39) × (length v ≤ 1024)
-found_short b low high [] t n v f = absurd (let c : None ≡ Some v = sym (find_empty n) ∙ f in grind arith)
-found_short b low high (e ∷ es) t n v f =
-    let h = head_of b low high e es t in
-    let g = sym (find_cons (pair_in b e) (map (pair_in b) es) n) ∙ f in
-    ⊎_elim
-    (λ (k : bytes_eq (name_of e) n ≡ true).
-    let p = ap length (same_is (name_of e) n k) in
-    let q : value_in b e ≡ v = (let r : Some (value_in b e) ≡ Some v = rw k at g in cc) in
-    (omega (arith, p, name_short e), omega (arith, ap length q, value_short b e h.stands)))
-    (λ (k : bytes_eq (name_of e) n ≡ false). found_short b (end_of e) high es h.rest n v (rw k at g))
-    (cases_Bool (bytes_eq (name_of e) n))
+Whole_prop : (bytes : List ℕ) → IsProp (Whole bytes)
+Whole_prop bytes w v =
+    λ i. record {
+      all_of_them = Coded-set (coded_list coded_ℕ) _ _ w.all_of_them v.all_of_them i;
+      each_valid = Coded-set coded_bool _ _ w.each_valid v.each_valid i;
+    }
 
-module _ (b : List ℕ) (used : ℕ) (es : List Entry) (s : Sound b used es) where
-  pub limits : (n v : List ℕ) → find (replayed (take used b)) n ≡ Some v → (length n ≤ 39) × (length v ≤ 1024)
-  limits n v f =
-      found_short b 0 used es s.laid_out n v (sym (find_gathered (map (pair_in b) es) n) ∙ ap (λ m. find m n) (sym s.same) ∙ f)
+Distinct_prop : (ps : List (List ℕ × List ℕ)) → IsProp (Distinct ps)
+Distinct_prop [] = Unit-prop
+Distinct_prop (p ∷ ps) = ×_prop (Coded-set (coded_option (coded_list coded_ℕ)) _ _) (Distinct_prop ps)
 
-  pub count : length (replayed (take used b)) ≡ length es
-  count = ap length s.same ∙ length_gathered (map (pair_in b) es) s.different ∙ length-map es (pair_in b)
-
-  length_without : (place : Option ℕ) → length (without (map (pair_in b) es) place) ≡ length (without es place)
-  length_without place = ap length (sym (map_without (pair_in b) es place)) ∙ length-map (without es place) (pair_in b)
-
-  pub not_found : (name : List ℕ) → Placed (names es) name None → find (replayed (take used b)) name ≡ None
-  not_found name a = ap (λ m. find m name) s.same ∙ find_gathered (map (pair_in b) es) name ∙ absent (map (pair_in b) es) name (subst (λ x. Placed x name None) (sym (keys_of b es)) a)
-
-  pub found_value : (name : List ℕ) (i : ℕ) → Placed (names es) name (Some i) → find (replayed (take used b)) name ≡ Some (slice_index_or (map (value_in b) es) i [])
-  found_value name i a =
-      let ps = map (pair_in b) es in
-      let a' = subst (λ x. Placed x name (Some i)) (sym (keys_of b es)) a in
-      ap (λ m. find m name) s.same ∙ find_gathered ps name ∙ found_at ps name s.different i a' ∙ ap Some (second_at b es i)
-
-  -- how many names are held then
-  pub count_put : (name value : List ℕ) (place : Option ℕ) → Placed (names es) name place → length (insert (replayed (take used b)) name value) ≡ length (without es place) + 1
-  count_put name value place a =
-      let ps = map (pair_in b) es in
-      let a' = subst (λ x. Placed x name place) (sym (keys_of b es)) a in
-      ap (λ m. length (insert m name value)) s.same
-      ∙ ap length (sym (gathered_put ps name s.different place a' value))
-      ∙ length_gathered _ (distinct_put ps name s.different place a' value)
-      ∙ length_push (without ps place) (name, value)
-      ∙ ap (λ n. n + 1) (length_without place)
-
-  pub count_drop : (name : List ℕ) (place : Option ℕ) → Placed (names es) name place → length (remove (replayed (take used b)) name) ≡ length (without es place)
-  count_drop name place a =
-      let ps = map (pair_in b) es in
-      let a' = subst (λ x. Placed x name place) (sym (keys_of b es)) a in
-      ap (λ m. length (remove m name)) s.same
-      ∙ ap length (sym (gathered_drop ps name s.different place a'))
-      ∙ length_gathered _ (distinct_without ps name s.different place a')
-      ∙ length_without place
-
-  -- closing up
-  module _ (b' : List ℕ) (es' : List Entry) (end : ℕ) (c : Closed b es b' es' end) (l : end ≤ length b') where
-    closed_different : Distinct (map (pair_in b') es')
-    closed_different = subst Distinct (sym c.kept) s.different
-
-    closed_valid : all_valid (map stored_pair (map (pair_in b') es')) ≡ true
-    closed_valid = laid_valid b' 0 end es' c.in_order
-
-    closed_held : replayed (take end b') ≡ gathered (map (pair_in b') es')
-    closed_held = ap replayed c.packed ∙ replayed_stored (map (pair_in b') es') closed_different closed_valid
-
-    pub sound_closed : Sound b' end es'
-    sound_closed =
-        record {
-          within = l;
-          whole = subst Whole (sym c.packed) (whole_from (map stored_pair (map (pair_in b') es')) closed_valid);
-          laid_out = c.in_order;
-          different = closed_different;
-          same = closed_held;
-        }
-
-    pub held_closed : replayed (take end b') ≡ replayed (take used b)
-    held_closed = closed_held ∙ ap gathered c.kept ∙ sym s.same
-
-    pub names_closed : names es' ≡ names es
-    names_closed = sym (keys_of b' es') ∙ ap keys c.kept ∙ keys_of b es
-
-  -- a record more, and the entries that are kept
-  module _ (r : Record) (v : valid r ≡ true) (room : used + length (encoded r) ≤ length b) (b' : List ℕ) (written : b' ≡ overwritten b used (encoded r)) where
-    pub more_bytes : take (used + length (encoded r)) b' ≡ take used b ++ encoded r
-    more_bytes = ap (take (used + length (encoded r))) written ∙ take_overwritten b used (encoded r) room
-
-    used_length : length (take used b) ≡ used
-    used_length = length-take-le used b s.within
-
-    same_bytes : take used b' ≡ take used b
-    same_bytes = sym (take-take used (used + length (encoded r)) b' (omega arith)) ∙ ap (take used) more_bytes ∙ take_at (take used b) (encoded r) used used_length
-
-    pub more_within : used + length (encoded r) ≤ length b'
-    more_within = omega (arith, ap length written, length_overwritten b used (encoded r) room)
-
-    more_whole : Whole (take (used + length (encoded r)) b')
-    more_whole = subst Whole (sym more_bytes) (whole_push (take used b) r s.whole v)
-
-    pub more_held : replayed (take (used + length (encoded r)) b') ≡ done (replayed (take used b)) r
-    more_held = ap replayed more_bytes ∙ replayed_push (take used b) r s.whole v
-
-    kept_entries : (place : Option ℕ) → (laid b' 0 used (without es place) ≡ true) × (map (pair_in b') (without es place) ≡ without (map (pair_in b) es) place)
-    kept_entries place =
-        let l = laid_same_front b b' 0 used (without es place) (laid_without b 0 used es place s.laid_out) same_bytes in
-        (l.0, l.1 ∙ map_without (pair_in b) es place)
-
-    -- the record itself
-    new_bytes : take (length (encoded r)) (drop used b') ≡ encoded r
-    new_bytes = sym (drop-take used (length (encoded r)) b') ∙ ap (drop used) more_bytes ∙ drop_at (take used b) (encoded r) used used_length
-
-  -- a value put under a name
-  module _ (name value : List ℕ) (v : valid (stored name value) ≡ true) (place : Option ℕ) (a : Placed (names es) name place)
-      (room : used + length (encoded (stored name value)) ≤ length b) (b' : List ℕ) (written : b' ≡ overwritten b used (encoded (stored name value)))
-      (e : Entry) (named : name_of e ≡ name) (at : e.offset ≡ used) (sized : e.size ≡ length value) where
-    record_length : record_size e ≡ length (encoded (stored name value))
-    record_length = omega (arith, ap length named, sized, length_stored name value)
-
-    record_is : record_bytes b' e ≡ encoded (stored name value)
-    record_is = (λ j. take (record_length j) (drop (at j) b')) ∙ new_bytes (stored name value) v room b' written
-
-    pair_is : pair_in b' e ≡ (name, value)
-    pair_is =
-        let p : value_in b' e ≡ value = (λ j. drop (length (named j) + 3) (record_is j)) ∙ value_encoded name value in
-        λ j. (named j, p j)
-
-    record_stands : recorded b' e ≡ true
-    record_stands =
-        let q = and_parts (nat_le (length name) 39) (nat_le (length value) 1024) v in
-        and_from _ _ ((bytes_eq-Decides _ _).1 (record_is ∙ sym (ap (λ p. encoded (stored_pair p)) pair_is))) (ap (λ n. leb n 1024) sized ∙ q.1)
-
-    stored_pairs : map (pair_in b') (without es place ++ (e ∷ [])) ≡ without (map (pair_in b) es) place ++ ((name, value) ∷ [])
-    stored_pairs =
-        let k = (kept_entries (stored name value) v room b' written place).1 in
-        let p = pair_is in
-        map_push (pair_in b') (without es place) e ∙ (λ j. k j ++ (p j ∷ []))
-
-    pub stored_sound : Sound b' (used + length (encoded (stored name value))) (without es place ++ (e ∷ []))
-    stored_sound =
-        let ps = map (pair_in b) es in
-        let a' = subst (λ x. Placed x name place) (sym (keys_of b es)) a in
-        let k = kept_entries (stored name value) v room b' written place in
-        record {
-          within = more_within (stored name value) v room b' written;
-          whole = more_whole (stored name value) v room b' written;
-          laid_out = laid_push b' 0 used (used + length (encoded (stored name value))) (without es place) e k.0 (omega (arith, at)) record_stands (omega (arith, at, record_length));
-          different = subst Distinct (sym stored_pairs) (distinct_put ps name s.different place a' value);
-          same = more_held (stored name value) v room b' written ∙ ap (λ m. insert m name value) s.same ∙ sym (gathered_put ps name s.different place a' value) ∙ ap gathered (sym stored_pairs);
-        }
-
-  -- a name dropped
-  module _ (name : List ℕ) (v : valid (dropped name) ≡ true) (place : Option ℕ) (a : Placed (names es) name place)
-      (room : used + length (encoded (dropped name)) ≤ length b) (b' : List ℕ) (written : b' ≡ overwritten b used (encoded (dropped name))) where
-    pub dropped_sound : Sound b' (used + length (encoded (dropped name))) (without es place)
-    dropped_sound =
-        let ps = map (pair_in b) es in
-        let a' = subst (λ x. Placed x name place) (sym (keys_of b es)) a in
-        let k = kept_entries (dropped name) v room b' written place in
-        record {
-          within = more_within (dropped name) v room b' written;
-          whole = more_whole (dropped name) v room b' written;
-          laid_out = laid_higher b' 0 used (used + length (encoded (dropped name))) (without es place) (omega arith) k.0;
-          different = subst Distinct (sym k.1) (distinct_without ps name s.different place a');
-          same = more_held (dropped name) v room b' written ∙ ap (λ m. remove m name) s.same ∙ sym (gathered_drop ps name s.different place a') ∙ ap gathered (sym k.1);
-        }
+pub Sound_prop : (b : List ℕ) (used : ℕ) (es : List Entry) → IsProp (Sound b used es)
+Sound_prop b used es s t =
+    λ i. record {
+      within = le_prop s.within t.within i;
+      whole = Whole_prop _ s.whole t.whole i;
+      laid_out = Coded-set coded_bool _ _ s.laid_out t.laid_out i;
+      different = Distinct_prop _ s.different t.different i;
+      same = Coded-set (coded_list (coded× (coded_list coded_ℕ) (coded_list coded_ℕ))) _ _ s.same t.same i;
+    }

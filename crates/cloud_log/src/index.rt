@@ -1,21 +1,16 @@
 //! The index as a list of entries, no two with one name.
 
-ghost use Rattle.std.specs.Prelude.{◌≡◌, ◌<◌, length, IfSome, vec_len, vec_capacity};
-ghost use Rattle.cloud_log.specs.Index.{names, Placed, without};
+ghost use Rattle.std.specs.Prelude.{◌≡◌, ◌<◌, IfSome, vec_len, vec_capacity};
+ghost use Rattle.cloud_log.specs.Index.{place_of, without};
 
 use crate::entry::Entry;
-use byte_strings::compare::is_same;
+use byte_strings::named::Named;
 
-// Where a name stands.
+// The first place where a name stands.
 pub(crate) fn position(index: &[Entry], name: &[u8]) -> Option<usize>
-    ensures { Placed (names index.now) name.now result }
+    ensures { result ≡ place_of index.now name.now }
 {
-    for (i, entry) in index.iter().enumerate() {
-        if is_same(entry.name.as_slice(), name) {
-            return Some(i);
-        }
-    }
-    None
+    index.iter().position(|entry| entry.name() == name)
 }
 
 // Takes out the entry at a place, if one is given.

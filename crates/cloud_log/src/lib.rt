@@ -3,8 +3,6 @@
 
 mod closing;
 pub mod entry;
-mod front;
 mod index;
 pub mod log_cloud;
 pub mod memory;
-mod name;

@@ -7,17 +7,13 @@ use cloud::interface::Cloud;
 use cloud_fixed::fixed::FixedCloud;
 use cloud_log::log_cloud::LogCloud;
 use cloud_log::memory::LogMemory;
+use log_record::limits::LONGEST_RECORD;
 use std::env;
 
 mod timing;
 mod work;
 
 const PLACES: usize = 32;
-
-const RECORD: usize = 1066;
-
-// Calls in a round, whatever the number of names.
-const CALLS: f64 = 16000.0;
 
 fn measure<C: Cloud>(
     rt: &HostRuntime,
@@ -27,8 +23,9 @@ fn measure<C: Cloud>(
     turns: u32,
 ) -> anyhow::Result<()> {
     let times = timing::best_times(rt, cloud, names, turns)?;
-    let puts = CALLS / times.puts;
-    let gets = CALLS / times.gets;
+    let calls = f64::from(names) * f64::from(turns);
+    let puts = calls / times.puts;
+    let gets = calls / times.gets;
     let put_share = times.copies_in / times.puts;
     let get_share = times.copies_out / times.gets;
     println!(rt; "{kind}, {names} of 32 places held:")?;
@@ -38,21 +35,17 @@ fn measure<C: Cloud>(
 }
 
 fn fixed(rt: &HostRuntime) -> anyhow::Result<FixedCloud> {
-    match FixedCloud::new(Vec::with_capacity(rt.alloc(), PLACES)?, PLACES) {
-        Ok(cloud) => Ok(cloud),
-        Err(_) => Err(anyhow!("the fixed cloud was refused")),
-    }
+    FixedCloud::new(Vec::with_capacity(rt.alloc(), PLACES)?, PLACES).map_err(|_| anyhow!(
+        "the fixed cloud was refused"
+    ))
 }
 
 fn log(rt: &HostRuntime) -> anyhow::Result<LogCloud> {
     let memory = LogMemory {
-        bytes: vec![in rt.alloc(); 0; (PLACES + 1) * RECORD]?,
+        bytes: vec![in rt.alloc(); 0; (PLACES + 1) * LONGEST_RECORD]?,
         index: Vec::with_capacity(rt.alloc(), PLACES)?,
     };
-    match LogCloud::new(memory, PLACES) {
-        Ok(cloud) => Ok(cloud),
-        Err(_) => Err(anyhow!("the log cloud was refused")),
-    }
+    LogCloud::new(memory, PLACES).map_err(|_| anyhow!("the log cloud was refused"))
 }
 
 fn run(rt: &HostRuntime) -> anyhow::Result<()> {

@@ -1,7 +1,8 @@
 //! Copies and calls timed in turns.
-use crate::work;
+use crate::work::{self, SIZE};
 use anyhow::anyhow;
 use cloud::interface::Cloud;
+use refusal::Cause;
 use std::time::Instant;
 
 const ROUNDS: usize = 31;
@@ -18,41 +19,43 @@ pub(super) struct Times {
 impl Times {
     fn best(self, other: Times) -> Times {
         Times {
-            copies_in: shorter(self.copies_in, other.copies_in),
-            puts: shorter(self.puts, other.puts),
-            copies_out: shorter(self.copies_out, other.copies_out),
-            gets: shorter(self.gets, other.gets),
+            copies_in: self.copies_in.min(other.copies_in),
+            puts: self.puts.min(other.puts),
+            copies_out: self.copies_out.min(other.copies_out),
+            gets: self.gets.min(other.gets),
         }
     }
 }
 
-fn shorter(a: f64, b: f64) -> f64 {
-    if a < b { a } else { b }
+// How long the step takes, where nothing in it is refused.
+fn seconds<F: FnOnce() -> Result<(), Cause>>(rt: &HostRuntime, step: F) -> anyhow::Result<f64>
+    requires { F.IsAlwaysCallable step }
+{
+    let start = Instant::now(rt)?;
+    let done = step();
+    let time = start.elapsed(rt)?;
+    done.map_err(|_| anyhow!("a copy or a call was refused"))?;
+    Ok(time.as_secs_f64())
 }
 
 fn round<C: Cloud>(
     rt: &HostRuntime,
     cloud: &mut C,
-    memory: &mut [u8],
-    part: &mut [u8],
+    places: &mut [[u8; SIZE]],
+    part: &mut [u8; SIZE],
     names: u8,
     turns: u32,
 ) -> anyhow::Result<Times> {
-    let start = Instant::now(rt)?;
-    let copied = work::copy_in(memory, names, part, turns);
-    let copies_in = start.elapsed(rt)?.as_secs_f64();
-    let start = Instant::now(rt)?;
-    let put = work::put_all(cloud, names, part, turns);
-    let puts = start.elapsed(rt)?.as_secs_f64();
-    let start = Instant::now(rt)?;
-    let read = work::copy_out(memory, names, part, turns);
-    let copies_out = start.elapsed(rt)?.as_secs_f64();
-    let start = Instant::now(rt)?;
-    let got = work::get_all(cloud, names, part, turns);
-    let gets = start.elapsed(rt)?.as_secs_f64();
-    if !copied || !put || !read || !got {
-        return Err(anyhow!("a copy or a call was refused"));
-    }
+    let copies_in = seconds(rt, || {
+        work::copy_in(places, part, turns);
+        Ok(())
+    })?;
+    let puts = seconds(rt, || work::put_all(cloud, names, part, turns))?;
+    let copies_out = seconds(rt, || {
+        work::copy_out(places, part, turns);
+        Ok(())
+    })?;
+    let gets = seconds(rt, || work::get_all(cloud, names, part, turns))?;
     Ok(Times {
         copies_in,
         puts,
@@ -68,25 +71,11 @@ pub(super) fn best_times<C: Cloud>(
     names: u8,
     turns: u32,
 ) -> anyhow::Result<Times> {
-    let mut memory = vec![in rt.alloc(); 0; 32 * work::SIZE]?;
-    let mut part = vec![in rt.alloc(); 1; work::SIZE]?;
-    let mut best = round(
-        rt,
-        cloud,
-        memory.as_mut_slice(),
-        part.as_mut_slice(),
-        names,
-        turns,
-    )?;
+    let mut places = vec![in rt.alloc(); [0; SIZE]; names as usize]?;
+    let mut part = [1; SIZE];
+    let mut best = round(rt, cloud, &mut places, &mut part, names, turns)?;
     for _ in 1..ROUNDS {
-        best = best.best(round(
-            rt,
-            cloud,
-            memory.as_mut_slice(),
-            part.as_mut_slice(),
-            names,
-            turns,
-        )?);
+        best = best.best(round(rt, cloud, &mut places, &mut part, names, turns)?);
     }
     Ok(best)
 }

@@ -1,72 +1,60 @@
 //! What is timed.
 use cloud::interface::Cloud;
+use refusal::Cause;
 
 /// The length of each value.
 pub(super) const SIZE: usize = 1024;
 
-// The names that the calls go round.
-fn name(i: u8) -> [u8; 17] {
-    [i; 17]
-}
-
-/// Copies the value to the places of the first names, so many times over, and says whether all had room.
-pub(super) fn copy_in(memory: &mut [u8], names: u8, value: &[u8], turns: u32) -> bool {
-    let mut all = true;
+/// Copies the value to each of the places, so many times over.
+pub(super) fn copy_in(places: &mut [[u8; SIZE]], value: &[u8; SIZE], turns: u32) {
     for _ in 0..turns {
-        for i in 0..names {
-            all = copy_to_place(memory, i, value) && all;
+        for place in places.iter_mut() {
+            place.copy_from_slice(value);
         }
     }
-    all
 }
 
-fn copy_to_place(memory: &mut [u8], i: u8, value: &[u8]) -> bool {
-    let at = i as usize * SIZE;
-    if value.len() != SIZE || memory.len() < at + SIZE {
-        return false;
-    }
-    memory[at..at + SIZE].copy_from_slice(value);
-    true
-}
-
-/// Copies the values of the first names to the part, so many times over, and says whether all were there.
-pub(super) fn copy_out(memory: &[u8], names: u8, part: &mut [u8], turns: u32) -> bool {
-    let mut all = true;
+/// Copies the value of each of the places to the part, so many times over.
+pub(super) fn copy_out(places: &[[u8; SIZE]], part: &mut [u8; SIZE], turns: u32) {
     for _ in 0..turns {
-        for i in 0..names {
-            all = copy_from_place(memory, i, part) && all;
+        for place in places {
+            part.copy_from_slice(place);
         }
     }
-    all
 }
 
-fn copy_from_place(memory: &[u8], i: u8, part: &mut [u8]) -> bool {
-    let at = i as usize * SIZE;
-    if part.len() != SIZE || memory.len() < at + SIZE {
-        return false;
-    }
-    part.copy_from_slice(&memory[at..at + SIZE]);
-    true
+/// Puts the value under the first names, so many times over.
+pub(super) fn put_all<C: Cloud>(
+    cloud: &mut C,
+    names: u8,
+    value: &[u8],
+    turns: u32,
+) -> Result<(), Cause> {
+    call_all(names, turns, |name| cloud.put(name, value))
 }
 
-/// Puts the value under the first names, so many times over, and says whether all was acknowledged.
-pub(super) fn put_all<C: Cloud>(cloud: &mut C, names: u8, value: &[u8], turns: u32) -> bool {
-    let mut all = true;
+/// Gets the values of the first names, so many times over.
+pub(super) fn get_all<C: Cloud>(
+    cloud: &mut C,
+    names: u8,
+    part: &mut [u8],
+    turns: u32,
+) -> Result<(), Cause> {
+    call_all(names, turns, |name| cloud.get(name, part).map(|_| ()))
+}
+
+// Makes the call with each of the first names, so many times over.
+fn call_all<F: FnMut(&[u8]) -> Result<(), Cause>>(
+    names: u8,
+    turns: u32,
+    mut call: F,
+) -> Result<(), Cause>
+    requires { F.IsAlwaysCallable call }
+{
     for _ in 0..turns {
         for i in 0..names {
-            all = cloud.put(&name(i), value).is_ok() && all;
+            call(&[i; 17])?;
         }
     }
-    all
-}
-
-/// Gets the values of the first names, so many times over, and says whether all were there.
-pub(super) fn get_all<C: Cloud>(cloud: &mut C, names: u8, part: &mut [u8], turns: u32) -> bool {
-    let mut all = true;
-    for _ in 0..turns {
-        for i in 0..names {
-            all = cloud.get(&name(i), part).is_ok() && all;
-        }
-    }
-    all
+    Ok(())
 }

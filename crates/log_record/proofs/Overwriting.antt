@@ -1,46 +1,24 @@
--- Parts written into bytes, one after another.
-use Rattle.std.proofs.Common.{◌≡◌, ℕ, ◌+◌, ◌≤◌, List, ◌++◌, length, take, drop, sym, refl, ap, ◌∙◌, append_assoc, arith, length-append, length-drop}
-use Rattle.std.proofs.lemmas.List.{take_at, drop_at, drop-drop, length-take-le}
+-- A part written into bytes.
+use Rattle.std.proofs.Common.{◌≡◌, ℕ, ◌+◌, ◌≤◌, List, ◌++◌, length, take, drop, ap, append_assoc, arith}
+use Rattle.std.proofs.lemmas.Grind.{common_steps}
+use Rattle.std.proofs.lemmas.List.{drop_at, drop-drop}
 use Rattle.log_record.specs.Written.{overwritten}
 
-pub overwritten_is : (bytes : List ℕ) (at : ℕ) (part : List ℕ) → overwritten bytes at part ≡ take at bytes ++ (part ++ drop (at + length part) bytes)
-unfolding overwritten
-overwritten_is bytes at part = refl
-
 module _ (bytes : List ℕ) (at : ℕ) (part : List ℕ) (room : at + length part ≤ length bytes) where
-  regrouped : overwritten bytes at part ≡ (take at bytes ++ part) ++ drop (at + length part) bytes
-  regrouped = overwritten_is bytes at part ∙ sym (append_assoc (take at bytes) part (drop (at + length part) bytes))
-
-  front_length : length (take at bytes ++ part) ≡ at + length part
-  front_length = omega (arith, length-append (take at bytes) part, length-take-le at bytes (omega arith))
-
   pub take_overwritten : take (at + length part) (overwritten bytes at part) ≡ take at bytes ++ part
-  take_overwritten = ap (take (at + length part)) regrouped ∙ take_at (take at bytes ++ part) _ _ front_length
+  unfolding overwritten
+  take_overwritten = grind (arith, common_steps)
 
-  pub drop_overwritten : drop (at + length part) (overwritten bytes at part) ≡ drop (at + length part) bytes
-  drop_overwritten = ap (drop (at + length part)) regrouped ∙ drop_at (take at bytes ++ part) _ _ front_length
+  drop_overwritten : drop (at + length part) (overwritten bytes at part) ≡ drop (at + length part) bytes
+  unfolding overwritten
+  drop_overwritten =
+      let l : length (take at bytes ++ part) ≡ at + length part = grind (arith, common_steps) in
+      rw (← append_assoc) (drop_at (take at bytes ++ part) _ _ l)
 
   pub length_overwritten : length (overwritten bytes at part) ≡ length bytes
-  length_overwritten =
-      let e = length-append (take at bytes ++ part) (drop (at + length part) bytes) in
-      ap length regrouped ∙ omega (arith, e, front_length, length-drop (at + length part) bytes)
+  unfolding overwritten
+  length_overwritten = grind (arith, common_steps)
 
   -- past the part, and further on
   pub rest_overwritten : (n : ℕ) → drop (at + length part + n) (overwritten bytes at part) ≡ drop (at + length part + n) bytes
-  rest_overwritten n =
-      sym (drop-drop n (at + length part) (overwritten bytes at part)) ∙ ap (drop n) drop_overwritten ∙ drop-drop n (at + length part) bytes
-
-  -- a second part, right after the first
-  pub overwritten_on : (next : List ℕ) → overwritten (overwritten bytes at part) (at + length part) next ≡ overwritten bytes at (part ++ next)
-  overwritten_on next =
-      let l : at + length part + length next ≡ at + length (part ++ next) = omega (arith, length-append part next) in
-      overwritten_is (overwritten bytes at part) (at + length part) next
-      ∙ ap (λ x. x ++ (next ++ drop (at + length part + length next) (overwritten bytes at part))) take_overwritten
-      ∙ ap (λ x. (take at bytes ++ part) ++ (next ++ x)) (rest_overwritten (length next))
-      ∙ append_assoc (take at bytes) part (next ++ drop (at + length part + length next) bytes)
-      ∙ ap (λ x. take at bytes ++ x) (sym (append_assoc part next (drop (at + length part + length next) bytes)))
-      ∙ ap (λ n. take at bytes ++ ((part ++ next) ++ drop n bytes)) l
-      ∙ sym (overwritten_is bytes at (part ++ next))
-
-  pub written_on : (bytes₁ : List ℕ) (at₁ : ℕ) (next bytes₂ : List ℕ) → at₁ ≡ at + length part → bytes₁ ≡ overwritten bytes at part → bytes₂ ≡ overwritten bytes₁ at₁ next → bytes₂ ≡ overwritten bytes at (part ++ next)
-  written_on bytes₁ at₁ next bytes₂ a b₁ b₂ = b₂ ∙ ap (λ x. overwritten x at₁ next) b₁ ∙ ap (λ n. overwritten (overwritten bytes at part) n next) a ∙ overwritten_on next
+  rest_overwritten n = let d = drop_overwritten in rw (← drop-drop n, ← drop-drop n) (ap (drop n) d)

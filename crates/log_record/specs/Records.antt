@@ -14,11 +14,14 @@ abbrev pub valid : Record → Bool
 valid (stored name value) = nat_le (length name) longest_name && nat_le (length value) longest_value
 valid (dropped name) = nat_le (length name) longest_name
 
--- The name's length in one byte, the name, the value's length in two bytes, the higher first, and the value.
--- A dropped name has the two bytes 255 and no value.
+-- A record in bytes: the name's length in one byte, the name, the value's size in two bytes, and the value.
+abbrev pub framed : List ℕ → List ℕ → List ℕ → List ℕ
+framed name size value = length name ∷ (name ++ (size ++ value))
+
+-- The size has the higher byte first. That of a dropped name is the two bytes 255, and there is no value.
 unfoldable pub encoded : Record → List ℕ
-encoded (stored name value) = length name ∷ (name ++ (length value / 256 ∷ length value % 256 ∷ value))
-encoded (dropped name) = length name ∷ (name ++ (255 ∷ 255 ∷ []))
+encoded (stored name value) = framed name (length value / 256 ∷ length value % 256 ∷ []) value
+encoded (dropped name) = framed name (255 ∷ 255 ∷ []) []
 
 abbrev pub longest_record : ℕ
 longest_record = 1 + longest_name + 2 + longest_value

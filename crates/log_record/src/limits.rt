@@ -1,10 +1,6 @@
-//! How long names, values and records can be.
+//! How long records can be.
 
-/// The longest name.
-pub const LONGEST_NAME: usize = 39;
-
-/// The longest value.
-pub const LONGEST_VALUE: usize = 1024;
+use cloud::limits::{LONGEST_NAME, LONGEST_VALUE};
 
 /// The bytes of a record that are lengths: one for the name's, two for the value's.
 pub const LENGTHS: usize = 3;

@@ -1,69 +1,68 @@
 //! Records written into bytes.
 
-ghost use Rattle.std.specs.Prelude.{◌≡◌, ◌+◌, ◌≤◌, ◌∷◌, length, nat_le};
-ghost use Rattle.cloud.specs.Meaning.{longest_name};
-ghost use Rattle.log_record.specs.Records.{stored, dropped, RecordsReadBack};
-ghost use Rattle.log_record.specs.Written.{Written, overwritten};
+ghost use Rattle.std.specs.Prelude.{◌≡◌, ◌≤◌, length, nat_le};
+ghost use Rattle.cloud.specs.Meaning.{longest_name, longest_value};
+ghost use Rattle.log_record.specs.Records.{framed, stored, dropped, RecordsReadBack};
+ghost use Rattle.log_record.specs.Written.{Written, WrittenWhere};
 
-use crate::limits::{LENGTHS, LONGEST_NAME, LONGEST_VALUE};
+use crate::limits::LENGTHS;
+use cloud::limits::{LONGEST_NAME, LONGEST_VALUE};
+
+// The size of a dropped name's value: more than any value's.
+const NO_SIZE: [u8; 2] = [255, 255];
 
 /// Writes the record of a value put under a name, and answers where it ends.
 pub fn write_stored(bytes: &mut [u8], at: usize, name: &[u8], value: &[u8]) -> Option<usize>
     ensures written { Written bytes.old at (stored name.now value.now) result bytes.new }
     ensures read_back { RecordsReadBack }
 {
-    if name.len() > LONGEST_NAME || value.len() > LONGEST_VALUE {
+    if value.len() > LONGEST_VALUE {
         return None;
     }
-    if !has_room(bytes, at, name.len() + value.len() + LENGTHS) {
-        return None;
-    }
-    let high = (value.len() / 256) as u8;
-    let low = (value.len() % 256) as u8;
-    let after_name = write_name(bytes, at, name);
-    let after_size = write(bytes, after_name, &[high, low]);
-    Some(write(bytes, after_size, value))
+    let size = (value.len() as u16).to_be_bytes();
+    write_record(bytes, at, name, size, value)
 }
 
 /// Writes the record of a name dropped, and answers where it ends.
 pub fn write_dropped(bytes: &mut [u8], at: usize, name: &[u8]) -> Option<usize>
     ensures { Written bytes.old at (dropped name.now) result bytes.new }
 {
+    write_record(bytes, at, name, NO_SIZE, &[])
+}
+
+// Writes the record of these parts, where the name is not too long and there is room.
+fn write_record(
+    bytes: &mut [u8],
+    at: usize,
+    name: &[u8],
+    size: [u8; 2],
+    value: &[u8],
+) -> Option<usize>
+    requires { length value.now ≤ longest_value }
+    ensures { WrittenWhere (nat_le (length name.now) longest_name) (framed name.now size value.now) bytes.old at result bytes.new }
+{
     if name.len() > LONGEST_NAME {
         return None;
     }
-    if !has_room(bytes, at, name.len() + LENGTHS) {
+    let end = at.checked_add(LENGTHS + name.len() + value.len())?;
+    if end > bytes.len() {
         return None;
     }
-    let after_name = write_name(bytes, at, name);
-    Some(write(bytes, after_name, &[255, 255]))
+    fill(&mut bytes[at..end], name, size, value);
+    Some(end)
 }
 
-// Whether so many bytes stand from `at` on.
-fn has_room(bytes: &[u8], at: usize, size: usize) -> bool
-    ensures { result ≡ nat_le (at + size) (length bytes.now) }
-{
-    at <= bytes.len() && size <= bytes.len() - at
-}
-
-// Writes the name's length and the name.
-fn write_name(bytes: &mut [u8], at: usize, name: &[u8]) -> usize
+// Fills the place of a record with its parts.
+fn fill(place: &mut [u8], name: &[u8], size: [u8; 2], value: &[u8])
     requires short { length name.now ≤ longest_name }
-    requires room { at + length name.now + 1 ≤ length bytes.old }
-    ensures end { result ≡ at + length (length name.now ∷ name.now) }
-    ensures after { bytes.new ≡ overwritten bytes.old at (length name.now ∷ name.now) }
+    requires exact { length place.old ≡ length (framed name.now size value.now) }
+    ensures { place.new ≡ framed name.now size value.now }
 {
-    let start = write(bytes, at, &[name.len() as u8]);
-    write(bytes, start, name)
-}
-
-// Writes the part from `at` on, and answers where it ends.
-fn write(bytes: &mut [u8], at: usize, part: &[u8]) -> usize
-    requires { at + length part.now ≤ length bytes.old }
-    ensures end { result ≡ at + length part.now }
-    ensures after { bytes.new ≡ overwritten bytes.old at part.now }
-{
-    let end = at + part.len();
-    bytes[at..end].copy_from_slice(part);
-    end
+    let (length_place, rest) = place.split_at_mut(1);
+    let (name_place, rest) = rest.split_at_mut(name.len());
+    let (size_place, value_place) = rest.split_at_mut(2);
+    length_place.copy_from_slice(&[name.len() as u8]);
+    name_place.copy_from_slice(name);
+    size_place.copy_from_slice(&size);
+    value_place.copy_from_slice(value);
 }

@@ -1,18 +1,16 @@
 //! Records appended to the log.
 
-ghost use Rattle.std.specs.Prelude.{◌≡◌, ◌+◌, ◌<◌, ◌≤◌, ◌++◌, length, IfNone, Some, vec_len};
-ghost use Rattle.bytemap.specs.Map.{insert, remove};
+ghost use Rattle.std.specs.Prelude.{◌≡◌, ◌+◌, ◌<◌, ◌≤◌, length, IfNone, Some, vec_len};
 ghost use Rattle.cloud.specs.Meaning.{longest_name, longest_value};
-ghost use Rattle.log_record.specs.Records.{stored, dropped, encoded, longest_record};
-ghost use Rattle.log_record.specs.Replay.{replayed};
+ghost use Rattle.log_record.specs.Records.{stored, dropped, longest_record};
 ghost use Rattle.cloud_log.specs.Index.{names, Placed};
-ghost use Rattle.cloud_log.specs.Meaning.{log_of, Roomy};
+ghost use Rattle.cloud_log.specs.Meaning.{Grown, Roomy};
 
 use crate::closing::close_up;
 use crate::entry::Entry;
 use crate::index::forget;
 use crate::log_cloud::LogCloud;
-use crate::name::Name;
+use byte_strings::fixed::FixedBytes;
 use log_record::write::{write_dropped, write_stored};
 
 impl LogCloud {
@@ -22,7 +20,7 @@ impl LogCloud {
         ensures { Roomy self.old self.new size }
     {
         if self.bytes.len() - self.used < size {
-            self.used = close_up(self.bytes.as_mut_slice(), self.index.as_mut_slice());
+            self.used = close_up(&mut self.bytes, &mut self.index);
         }
     }
 
@@ -30,19 +28,17 @@ impl LogCloud {
     // its entry becomes the last.
     pub(crate) fn append_stored(&mut self, place: Option<usize>, name: &[u8], value: &[u8])
         requires placed { Placed (names self.old.index.items) name.now place }
-        requires short { (length name.now ≤ longest_name) × (length value.now ≤ longest_value) }
+        requires short { length name.now ≤ longest_name }
+        requires small { length value.now ≤ longest_value }
         requires free { IfNone place (vec_len self.old.index < self.old.places) }
         requires room { self.old.used + (length name.now + length value.now + 3) ≤ vec_len self.old.bytes }
-        ensures log { log_of self.new ≡ log_of self.old ++ encoded (stored name.now value.now) }
-        ensures held { replayed (log_of self.new) ≡ insert (replayed (log_of self.old)) name.now value.now }
-        ensures places { self.new.places ≡ self.old.places }
-        ensures memory { vec_len self.new.bytes ≡ vec_len self.old.bytes }
+        ensures { Grown self.old (stored name.now value.now) self.new }
     {
         let offset = self.used;
-        let end = write_stored(self.bytes.as_mut_slice(), offset, name, value).unwrap();
+        let end = write_stored(&mut self.bytes, offset, name, value).unwrap();
         forget(&mut self.index, place);
         self.index.push_reserved(Entry {
-            name: Name::new(name),
+            name: FixedBytes::from_slice(name).unwrap(),
             offset,
             size: value.len(),
         });
@@ -53,13 +49,10 @@ impl LogCloud {
     pub(crate) fn append_dropped(&mut self, place: usize, name: &[u8])
         requires placed { Placed (names self.old.index.items) name.now (Some place) }
         requires room { self.old.used + (length name.now + 3) ≤ vec_len self.old.bytes }
-        ensures log { log_of self.new ≡ log_of self.old ++ encoded (dropped name.now) }
-        ensures held { replayed (log_of self.new) ≡ remove (replayed (log_of self.old)) name.now }
-        ensures places { self.new.places ≡ self.old.places }
-        ensures memory { vec_len self.new.bytes ≡ vec_len self.old.bytes }
+        ensures { Grown self.old (dropped name.now) self.new }
     {
-        let after = write_dropped(self.bytes.as_mut_slice(), self.used, name).unwrap();
-        forget(&mut self.index, Some(place));
+        let after = write_dropped(&mut self.bytes, self.used, name).unwrap();
+        let _ = self.index.remove(place);
         self.used = after;
     }
 }

@@ -3,16 +3,17 @@
 ghost use Rattle.cloud.specs.Outcomes.{PutOutcome, GetOutcome, DropOutcome, NextOutcome};
 ghost use Rattle.log_record.specs.Records.{stored, dropped};
 ghost use Rattle.cloud_log.specs.Meaning.{log_meaning, Logged};
-ghost use Rattle.cloud_log.specs.Calls.{within_limits};
+ghost use Rattle.cloud_log.specs.Limits.{within_limits};
 ghost use Rattle.std.proofs.Common.{rules, arith};
 
-use crate::entry::Above;
-use crate::front::write_front;
 use crate::index::position;
 use crate::log_cloud::LogCloud;
+use byte_strings::named::{AboveName, Named};
 use byte_strings::successor::successor;
+use cloud::front::write_value;
 use cloud::interface::Cloud;
-use log_record::limits::{LENGTHS, LONGEST_NAME, LONGEST_VALUE};
+use cloud::limits::{LONGEST_NAME, LONGEST_VALUE};
+use log_record::limits::LENGTHS;
 use refusal::Cause;
 
 /// A log cloud is always sound.
@@ -44,7 +45,7 @@ impl Cloud for LogCloud {
         if name.len() > LONGEST_NAME || value.len() > LONGEST_VALUE {
             return Err(Cause::TooLong);
         }
-        let place = position(self.index.as_slice(), name);
+        let place = position(&self.index, name);
         if !self.has_place(place) {
             return Err(Cause::Full);
         }
@@ -54,35 +55,26 @@ impl Cloud for LogCloud {
     }
 
     fn get(&mut self, name: &[u8], part: &mut [u8]) -> Result<usize, Cause> {
-        let Some(place) = position(self.index.as_slice(), name) else {
-            return Err(Cause::NotHeld);
-        };
-        let value = self.value_at(place);
-        if value.len() > part.len() {
-            return Err(Cause::TooLong);
-        }
-        write_front(part, value);
-        Ok(value.len())
+        let place = position(&self.index, name).ok_or(Cause::NotHeld)?;
+        write_value(self.value_at(place), part)
     }
 
     fn drop(&mut self, name: &[u8]) -> Result<(), Cause>
         ensures outcome { DropOutcome (log_meaning self.old) name.now result (log_meaning self.new) }
         ensures logged { Logged self.old (dropped name.now) result self.new }
     {
-        let Some(place) = position(self.index.as_slice(), name) else {
-            return Err(Cause::NotHeld);
-        };
+        let place = position(&self.index, name).ok_or(Cause::NotHeld)?;
         self.make_room(name.len() + LENGTHS);
         self.append_dropped(place, name);
         Ok(())
     }
 
     fn next(&mut self, above: &[u8], place: &mut [u8; 39]) -> Result<Option<usize>, Cause> {
-        let Some(i) = successor(self.index.as_slice(), &Above { bytes: above }) else {
+        let Some(i) = successor(&self.index, &AboveName { bytes: above }) else {
             return Ok(None);
         };
-        let name = self.index[i].name.as_slice();
-        write_front(place, name);
+        let name = self.index[i].name();
+        place[..name.len()].copy_from_slice(name);
         Ok(Some(name.len()))
     }
 }

@@ -17,7 +17,7 @@ impl LogCloud {
     pub fn new(memory: LogMemory, places: usize) -> Result<LogCloud, Rejected<LogMemory>>
         ensures { Made memory places result }
     {
-        if places == 0 || places > MOST_PLACES || !has_room(&memory, places) {
+        if !(1..=MOST_PLACES).contains(&places) || !has_room(&memory, places) {
             return Err(Rejected {
                 refusal: Refusal::UnsupportedStorage,
                 given: memory,

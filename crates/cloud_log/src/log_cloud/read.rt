@@ -15,7 +15,7 @@ impl LogCloud {
         ensures held { replayed result.now ≡ (log_meaning self.now).held }
         ensures value { result.now ≡ log_of self.now }
     {
-        &self.bytes.as_slice()[0..self.used]
+        &self.bytes[..self.used]
     }
 
     // The value of the entry at a place of the index.
@@ -23,7 +23,7 @@ impl LogCloud {
         requires { place < vec_len self.now.index }
         ensures { result.now ≡ slice_index_or (map (value_in self.now.bytes.items) self.now.index.items) place [] }
     {
-        self.index[place].value_in(self.bytes.as_slice())
+        self.index[place].value_in(&self.bytes)
     }
 
     // Whether a value can be put under a name that stands at this place of the index, or is new.

@@ -1,38 +1,25 @@
 use Rattle.std.proofs.Common.{◌≡◌, true, length, vec_items, sym, refl, subst, arith}
 use Rattle.cloud_log.specs.Index.{laid}
-use Rattle.cloud_log.specs.Standing.{laid_higher}
-use Rattle.cloud_log.specs.State.{room_behind, closed_facts, closed_held, closed_names}
+use Rattle.cloud_log.proofs.Standing.{laid_higher}
+use Rattle.cloud_log.proofs.State.{room_behind, closed_sound, closed_held, closed_names}
 use Rattle.cloud_log.proofs.log_cloud.LogCloud.make_room.Goals as goal
 
 pub close_up-self-requires : goal.close_up-self-requires
 close_up-self-requires c =
     let s = c.args.self.now in
-    let b = c.as_mut_slice.result.now in
-    let v = c.as_mut_slice.ensures.value in
-    let t = subst (λ x. laid x 0 s.used (vec_items s.index) ≡ true) (sym v) s.ordered in
-    let u = laid_higher b 0 s.used (length b) (vec_items s.index) (omega (arith, c.as_mut_slice.ensures.len, s.within)) t in
-    subst (λ x. laid b 0 (length b) x ≡ true) (sym c.as_mut_slice-then-len-self.ensures.value) u
+    let b = c.deref_mut.result.now in
+    let t = subst (λ x. laid x 0 s.used (vec_items s.index) ≡ true) (sym c.deref_mut.ensures.value) s.sound.laid_out in
+    let u = laid_higher b 0 s.used (length b) (vec_items s.index) (omega (arith, c.deref_mut.ensures.len, s.sound.within, s.bytes.ok.0)) t in
+    subst (λ x. laid b 0 (length b) x ≡ true) (sym c.deref_mut-then-len-self.ensures.value) u
 
-pub invariant_of-self : goal.invariant_of-self
-invariant_of-self c =
-    let s = c.args.self.now in
-    let facts = closed_facts s _ c.close_up-self.new.bytes _ c.close_up-self.new.index c.close_up-self.result c.as_mut_slice.ensures.value c.as_mut_slice-then-len-self.ensures.value (omega arith) (omega arith) c.close_up-self.ensures in record {
-      few = s.few;
-      room = s.room;
-      reserved = s.reserved;
-      within = facts.0;
-      encoded = facts.1.0;
-      valid = facts.1.1.0;
-      ordered = facts.1.1.1.0;
-      different = facts.1.1.1.1.0;
-      same = facts.1.1.1.1.1.0;
-    }
+pub invariant_of-self-clause-sound : goal.invariant_of-self-clause-sound
+invariant_of-self-clause-sound c = closed_sound c.args.self.now _ _ _ _ _ c.deref_mut.ensures.value c.deref_mut-then-len-self.ensures.value (omega arith) (omega arith) c.close_up-self.ensures
 
 pub returns-then-len-self : goal.returns-then-len-self
 returns-then-len-self c =
     let s = c.args.self.now in
-    let vb = c.as_mut_slice.ensures.value in
-    let ve = c.as_mut_slice-then-len-self.ensures.value in
+    let vb = c.deref_mut.ensures.value in
+    let ve = c.deref_mut-then-len-self.ensures.value in
     let b' = c.close_up-self.new.bytes in
     let es' = c.close_up-self.new.index in
     let r = room_behind s _ b' _ es' c.close_up-self.result vb ve (omega arith) (omega arith) c.close_up-self.ensures in

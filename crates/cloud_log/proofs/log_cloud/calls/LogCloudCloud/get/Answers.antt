@@ -1,23 +1,28 @@
-use Rattle.std.proofs.Common.{Some, sym, refl, ap, ◌∙◌}
+use Rattle.std.proofs.Common.{◌≡◌, Some, None, vec_items, sym, ap, ◌∙◌, arith}
+use Rattle.std.proofs.lemmas.Result.{err_from_is_err_and}
+use Rattle.refusal.specs.declared.Cause.TheVariants.{NotHeld}
+use Rattle.cloud.proofs.Outcomes.{get_missing}
+use Rattle.cloud_log.specs.Index.{names, Placed}
 use Rattle.cloud_log.specs.Meaning.{log_meaning}
-use Rattle.cloud.proofs.Outcomes.{get_missing, get_short, get_done}
-use Rattle.cloud_log.specs.Calls.{not_held, held_inside, held_value}
+use Rattle.cloud_log.proofs.Changed.{not_found, found_value}
+use Rattle.cloud_log.proofs.Calls.{placed, got}
 use Rattle.cloud_log.proofs.log_cloud.calls.LogCloudCloud.get.Goals as goal
+use Rattle.cloud_log.proofs.log_cloud.calls.LogCloudCloud.get.Goals.{In_ok-place}
 
-pub returns-in_default : goal.returns-in_default
-returns-in_default c = get_missing (log_meaning c.args.self.now).held (log_meaning c.args.self.now).free c.args.name.now c.args.part.now (not_held c.args.self.now c.args.name.now _ c.as_slice.ensures.value c.in_default.ensures)
+pub returns-in_err-place : goal.returns-in_err-place
+returns-in_err-place c =
+    let s = c.args.self.now in
+    let p = err_from_is_err_and c.from_residual.result c.from_residual.ensures.1 in
+    let e : c.in_err-place.field-0.0 ≡ NotHeld = grind arith in
+    let n : c.position.result ≡ None = grind arith in
+    rw (p.1, p.2, e) (get_missing (log_meaning s).held (log_meaning s).free c.args.name.now c.args.part.now (not_found _ _ _ s.sound _ (placed s c.args.name.now c.deref.ensures.value (sym n ∙ c.position.ensures))))
 
-pub value_at-value-requires : goal.value_at-value-requires
-value_at-value-requires c = held_inside c.args.self.now c.args.name.now _ c.as_slice.ensures.value c.in-Some.place c.in-Some.ensures
-
-pub returns-then-value-part : goal.returns-then-value-part
-returns-then-value-part c =
-    get_short (log_meaning c.args.self.now).held (log_meaning c.args.self.now).free c.args.name.now c.args.part.now c.value_at-value.result.now
-    (held_value c.args.self.now c.args.name.now _ c.as_slice.ensures.value c.in-Some.place c.in-Some.ensures ∙ ap Some (sym c.value_at-value.ensures))
-    c.if-value-part.true
+found : (c : In_ok-place) → Placed (names (vec_items c.args.self.now.index)) c.args.name.now (Some c.in_ok-place.place)
+found c =
+    let i : c.position.result ≡ Some c.in_ok-place.place = grind arith in
+    placed c.args.self.now c.args.name.now c.deref.ensures.value (sym i ∙ c.position.ensures)
 
 pub returns : goal.returns
 returns c =
-    get_done (log_meaning c.args.self.now).held (log_meaning c.args.self.now).free c.args.name.now c.args.part.now c.value_at-value.result.now
-    (held_value c.args.self.now c.args.name.now _ c.as_slice.ensures.value c.in-Some.place c.in-Some.ensures ∙ ap Some (sym c.value_at-value.ensures))
-    c.if-value-part.false _ c.write_front.new.part refl c.write_front.ensures
+    let s = c.args.self.now in
+    got s c.args.name.now c.args.part.now c.value_at.result.now (found_value _ _ _ s.sound _ _ (found (goal.at.returns c).In_ok-place) ∙ ap Some (sym c.value_at.ensures)) _ _ c.write_value.ensures.answer c.write_value.ensures.written

@@ -1,58 +1,21 @@
 -- Records that stand one after another in bytes, as the index says.
-use Rattle.std.specs.Prelude.{◌≡◌, ℕ, zero, suc, ◌+◌, ◌-◌, ◌<◌, ◌≤◌, true, leb, List, [], ◌∷◌, ◌++◌, map, length, take, drop, nat_le, slice_index_or, refl}
-use Rattle.std.proofs.Common.{sym, ap, ◌∙◌, arith, length-take}
+use Rattle.std.proofs.Common.{◌≡◌, ℕ, zero, suc, ◌+◌, ◌-◌, ◌<◌, ◌≤◌, true, List, [], ◌∷◌, ◌++◌, map, length, take, drop, get_or, sym, refl, ap, ◌∙◌, arith}
 use Rattle.std.specs.Str.{bytes_eq}
 use Rattle.std.proofs.lemmas.List.{take-take, drop-take, drop-drop}
-use Rattle.std.proofs.lemmas.Bool.{and_parts, and_from, leb-true, le-leb}
-use Rattle.std.proofs.lemmas.Slice.Eq.{bytes_eq-Decides}
-use Rattle.log_record.specs.Records.{stored, encoded}
+use Rattle.std.proofs.lemmas.Bool.{and_from, leb-true, le-leb}
+use Rattle.log_record.specs.Records.{encoded}
+use Rattle.log_record.specs.Replay.{stored_pair}
 use Rattle.cloud_log.specs.declared.entry.Entry.{Entry}
-use Rattle.cloud_log.specs.Index.{name_of, record_size, end_of, record_bytes, value_in, pair_in, record_in, recorded, laid}
-
--- ---- an entry
-
-pub name_short : (e : Entry) → length (name_of e) ≤ 39
-name_short e = omega (arith, length-take e.name.len e.name.bytes, e.name.short)
-
--- the value as a part of the bytes
-pub value_part : (b : List ℕ) (e : Entry) (n : ℕ) → n ≡ length (name_of e) → take (e.offset + n + 3 + e.size - (e.offset + n + 3)) (drop (e.offset + n + 3) b) ≡ value_in b e
-value_part b e n is =
-    let k : e.offset + n + 3 + e.size - (e.offset + n + 3) ≡ e.size = omega arith in
-    let o : e.offset + n + 3 ≡ e.offset + (length (name_of e) + 3) = omega arith in
-    let z : length (name_of e) + 3 + e.size ≡ record_size e = omega arith in
-    (λ j. take (k j) (drop (o j) b))
-    ∙ ap (take e.size) (sym (drop-drop (length (name_of e) + 3) e.offset b))
-    ∙ sym (drop-take (length (name_of e) + 3) e.size (drop e.offset b))
-    ∙ ap (λ m. drop (length (name_of e) + 3) (take m (drop e.offset b))) z
+use Rattle.cloud_log.specs.Index.{name_of, record_size, end_of, record_bytes, pair_in, recorded, laid}
+use Rattle.cloud_log.specs.Limits.{Head, head_of}
 
 -- an entry in other bytes, where the record is the same
-module _ (b b' : List ℕ) (e e' : Entry) (named : name_of e' ≡ name_of e) (sized : e'.size ≡ e.size) (same : record_bytes b' e' ≡ record_bytes b e) where
-  pub moved_value : value_in b' e' ≡ value_in b e
-  moved_value = ap (λ n. drop (length n + 3) (record_bytes b' e')) named ∙ ap (drop (length (name_of e) + 3)) same
-
+module _ (b b' : List ℕ) (e e' : Entry) (named : name_of e' ≡ name_of e) (same : record_bytes b' e' ≡ record_bytes b e) where
   pub moved_pair : pair_in b' e' ≡ pair_in b e
-  moved_pair = λ i. (named i, moved_value i)
+  moved_pair = λ i. (named i, drop (length (named i) + 3) (same i))
 
   pub moved_recorded : recorded b e ≡ true → recorded b' e' ≡ true
-  moved_recorded r =
-      let p = and_parts (bytes_eq (record_bytes b e) (encoded (record_in b e))) (nat_le e.size 1024) r in
-      let q : record_bytes b' e' ≡ encoded (record_in b' e') =
-      same ∙ (bytes_eq-Decides (record_bytes b e) (encoded (record_in b e))).0 p.0 ∙ sym (ap (λ x. encoded (stored x.0 x.1)) moved_pair) in
-      and_from _ _ ((bytes_eq-Decides _ _).1 q) (ap (λ n. leb n 1024) sized ∙ p.1)
-
--- ---- entries
-
-pub record Head (b : List ℕ) (low high : ℕ) (e : Entry) (es : List Entry) : Type 0 where
-  pub from : low ≤ e.offset
-  pub stands : recorded b e ≡ true
-  pub rest : laid b (end_of e) high es ≡ true
-
-pub head_of : (b : List ℕ) (low high : ℕ) (e : Entry) (es : List Entry) → laid b low high (e ∷ es) ≡ true → Head b low high e es
-unfolding laid
-head_of b low high e es t =
-    let p = and_parts (nat_le low e.offset) _ t in
-    let q = and_parts (recorded b e) _ p.1 in
-    record { from = leb-true low e.offset p.0; stands = q.0; rest = q.1 }
+  moved_recorded r = (let p = moved_pair in λ i. bytes_eq (same i) (encoded (stored_pair (p i)))) ∙ r
 
 pub laid_cons : (b : List ℕ) (low high : ℕ) (e : Entry) (es : List Entry) → Head b low high e es → laid b low high (e ∷ es) ≡ true
 unfolding laid
@@ -107,7 +70,7 @@ pub record Standing (b : List ℕ) (low high : ℕ) (e : Entry) : Type 0 where
   pub stands : recorded b e ≡ true
   pub until : end_of e ≤ high
 
-pub laid_at : (b : List ℕ) (low high : ℕ) (es : List Entry) (i : ℕ) (d : Entry) → i < length es → laid b low high es ≡ true → Standing b low high (slice_index_or es i d)
+pub laid_at : (b : List ℕ) (low high : ℕ) (es : List Entry) (i : ℕ) (d : Entry) → i < length es → laid b low high es ≡ true → Standing b low high (get_or es i d)
 laid_at b low high [] i d l t = absurd (omega arith)
 laid_at b low high (e ∷ es) zero d l t =
     let h = head_of b low high e es t in
@@ -129,8 +92,8 @@ module _ (b b' : List ℕ) (high : ℕ) where
       let h = head_of b low high e es t in
       let s = same e h.from (laid_within b _ high es h.rest) in
       let r = laid_same (end_of e) es (λ x l u. same x (omega (arith, h.from)) u) h.rest in (
-        laid_cons b' low high e es (record { from = h.from; stands = moved_recorded b b' e e refl refl s h.stands; rest = r.0 }),
-        λ i. moved_pair b b' e e refl refl s i ∷ r.1 i,
+        laid_cons b' low high e es (record { from = h.from; stands = moved_recorded b b' e e refl s h.stands; rest = r.0 }),
+        λ i. moved_pair b b' e e refl s i ∷ r.1 i,
       )
 
 -- ---- the bytes up to an offset, and from one on

@@ -2,6 +2,7 @@
 use Rattle.std.specs.Prelude.{◌≡◌, ℕ, ◌≤◌, Bool, true, false, ◌&&◌, List, [], ◌∷◌, length, None, IfSome, IfOk, refl}
 use Rattle.std.proofs.Common.{sym, ◌∙◌, ap, subst, arith}
 use Rattle.std.proofs.lemmas.Bool.{and_parts}
+use Rattle.std.proofs.Math.Bool.{and-true}
 use Rattle.cloud.specs.Meaning.{CloudMeaning, WithinLimits, longest_name}
 use Rattle.cloud.specs.Outcomes.{Done, Length, NextLength, PutOutcome, GetOutcome, DropOutcome, NextOutcome}
 use Rattle.cloud_faulty.specs.declared.fault.Fault.{Fault}
@@ -15,21 +16,15 @@ pass_is Silence h = absurd (grind arith)
 pass_is FalseSuccess h = absurd (grind arith)
 pass_is FlippedBit h = absurd (grind arith)
 
-first_passes : (fs : List Fault) → all_pass fs ≡ true → first fs ≡ Pass
-first_passes [] h = refl
-first_passes (f ∷ fs) h = pass_is f (and_parts (is_pass f) (all_pass fs) h).0
-
-rest_passes : (fs : List Fault) → all_pass fs ≡ true → all_pass (rest fs) ≡ true
-rest_passes [] h = refl
-rest_passes (f ∷ fs) h = (and_parts (is_pass f) (all_pass fs) h).1
-
-and_true : (b : Bool) → b && true ≡ b
-and_true true = refl
-and_true false = refl
+passing_on : (fs : List Fault) → all_pass fs ≡ true → (first fs ≡ Pass) × (all_pass (rest fs) ≡ true)
+passing_on [] h = (refl, refl)
+passing_on (f ∷ fs) h =
+    let parts = and_parts (is_pass f) (all_pass fs) h in
+    (pass_is f parts.0, parts.1)
 
 -- passing on, it means what the cloud below means
 same_meaning : (m : CloudMeaning) (fs : List Fault) → all_pass fs ≡ true → faulty_meaning m fs ≡ m
-same_meaning m fs h = rw (h, and_true m.sound)
+same_meaning m fs h = rw (h, and-true m.sound)
 
 pub limited : (m : CloudMeaning) (fs : List Fault) → WithinLimits m → WithinLimits (faulty_meaning m fs)
 limited m fs l = record { ascending = l.ascending; short = l.short; places = l.places }
@@ -39,14 +34,14 @@ module _ (m m' : CloudMeaning) (fs fs' : List Fault) (used : UsedUp fs fs') wher
   module _ (R : CloudMeaning → CloudMeaning → Type 0) where
     carried : all_pass fs ≡ true → R m m' → R (faulty_meaning m fs) (faulty_meaning m' fs')
     carried passing h =
-        let later : all_pass fs' ≡ true = ap all_pass used ∙ rest_passes fs passing in
+        let later : all_pass fs' ≡ true = ap all_pass used ∙ (passing_on fs passing).1 in
         subst (λ x. R x (faulty_meaning m' fs')) (sym (same_meaning m fs passing)) (subst (λ y. R m y) (sym (same_meaning m' fs' later)) h)
 
     -- where the layer is sound, the call was passed on: the fault F is then Pass
     passed_on : (F : Fault → Type 0) → F (first fs) → (F Pass → R m m') → m.sound && all_pass fs ≡ true → R (faulty_meaning m fs) (faulty_meaning m' fs')
     passed_on F h law sound =
         let passing = (and_parts m.sound (all_pass fs) sound).1 in
-        carried passing (law (subst F (first_passes fs passing) h))
+        carried passing (law (subst F (passing_on fs passing).0 h))
 
   module _ (passed unasked : Type 0) where
     pub put_law : (name value : List ℕ) (r : Done) → (passed → PutOutcome m name value r m') → AnsweredBy (first fs) passed unasked tt r → PutOutcome (faulty_meaning m fs) name value r (faulty_meaning m' fs')

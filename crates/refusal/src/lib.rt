@@ -138,8 +138,11 @@ impl Refusal {
 }
 
 /// What a refused making hands back: why nothing was made, and what had been given to make it of, as it was.
+/// It is told as the refusal.
 #[derive(Drop)]
+#[derive_where(Debug)]
 pub struct Rejected<T> {
     pub refusal: Refusal,
+    #[derive_where(skip(Debug))]
     pub given: T,
 }

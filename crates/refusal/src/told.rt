@@ -4,7 +4,7 @@ ghost use Rattle.std.specs.Prelude.{◌≡◌, Some};
 ghost use Rattle.refusal.specs.Told.{cause_text, fault_text, refusal_text};
 ghost use Rattle.refusal.specs.declared.Refusal.TheVariants.{CloudRefused};
 
-use crate::{Cause, CloudFault, Refusal};
+use crate::{Cause, CloudFault, Refusal, Rejected};
 use std::error::Error;
 use std::fmt;
 
@@ -42,6 +42,16 @@ impl fmt::Display for Refusal {
 }
 
 impl Error for Refusal {}
+
+impl<T> fmt::Display for Rejected<T> {
+    ghost output = { λ rejected. Some (refusal_text rejected.refusal) };
+
+    fn fmt<W: fmt::Write>(&self, f: &mut fmt::Formatter<W>) -> fmt::Result {
+        write!(f, "{}", self.refusal)
+    }
+}
+
+impl<T: Drop> Error for Rejected<T> {}
 
 /// A cloud's fault ends the call: `?` hands it on as it is.
 impl From<CloudFault> for Refusal {

@@ -1,13 +1,13 @@
 //! Both kinds of cloud, made at both ends of their limits and one past, and put through the same cases.
-use crate::any_cloud::all_cases;
-use crate::steps::{Step, run};
-use cloud::interface::Cloud;
+use crate::steps::Tested;
 use cloud_fixed::fixed::FixedCloud;
 use cloud_fixed::place::Place;
 use cloud_log::log_cloud::LogCloud;
 use cloud_log::memory::LogMemory;
+use refusal::Refusal;
 use std::alloc::AllocGlobal;
 use std::mem::size_of;
+use std::process::Abort;
 use std::test::*;
 
 const RECORD: usize = 1066;
@@ -18,18 +18,14 @@ fn a_place_is_1066_bytes(rt: HostRuntime) -> Result<(), Fail> {
     Ok(())
 }
 
-fn fixed(rt: &impl AllocGlobal, room: usize, places: usize) -> Result<Option<FixedCloud>, Fail> {
-    let memory = Vec::with_capacity(rt.alloc(), room)?;
-    Ok(FixedCloud::new(memory, places).ok())
-}
-
 #[test]
 fn fixed_clouds(rt: HostRuntime) -> Result<(), Fail> {
     for places in [1u8, 2, 32] {
-        let Some(mut cloud) = fixed(&rt, places as usize, places as usize)? else {
-            return Err(Fail::new("refused"));
-        };
-        all_cases(&rt, &mut cloud, places)?;
+        let memory = Vec::with_capacity(rt.alloc(), usize::from(places))?;
+        let cloud = FixedCloud::new(memory, usize::from(places)).map_err(
+            |rejected| rejected.refusal,
+        )?;
+        Tested { rt: &rt, cloud }.all_cases(places)?;
     }
     Ok(())
 }
@@ -41,7 +37,7 @@ fn fixed_clouds_refused(rt: HostRuntime) -> Result<(), Fail> {
         let Err(rejected) = FixedCloud::new(memory, places) else {
             return Err(Fail::new("not refused"));
         };
-        assert_eq!(rt; rejected.refusal.number(), 2);
+        assert_eq!(rt; rejected.refusal, Refusal::UnsupportedStorage);
         assert_eq!(rt; rejected.given.capacity(), room);
     }
     Ok(())
@@ -54,19 +50,17 @@ fn memory(rt: &impl AllocGlobal, size: usize, entries: usize) -> Result<LogMemor
     })
 }
 
-fn log(rt: &impl AllocGlobal, places: u8) -> Result<LogCloud, Fail> {
-    let places = places as usize;
+fn log<R: Abort + AllocGlobal>(rt: &R, places: u8) -> Result<Tested<'_, R, LogCloud>, Fail> {
+    let places = usize::from(places);
     let memory = memory(rt, (places + 1) * RECORD, places)?;
-    match LogCloud::new(memory, places) {
-        Ok(cloud) => Ok(cloud),
-        Err(_) => Err(Fail::new("refused")),
-    }
+    let cloud = LogCloud::new(memory, places).map_err(|rejected| rejected.refusal)?;
+    Ok(Tested { rt, cloud })
 }
 
 #[test]
 fn log_clouds(rt: HostRuntime) -> Result<(), Fail> {
     for places in [1u8, 2, 32] {
-        all_cases(&rt, &mut log(&rt, places)?, places)?;
+        log(&rt, places)?.all_cases(places)?;
     }
     Ok(())
 }
@@ -83,7 +77,7 @@ fn log_clouds_refused(rt: HostRuntime) -> Result<(), Fail> {
         let Err(rejected) = LogCloud::new(memory(&rt, size, entries)?, places) else {
             return Err(Fail::new("not refused"));
         };
-        assert_eq!(rt; rejected.refusal.number(), 2);
+        assert_eq!(rt; rejected.refusal, Refusal::UnsupportedStorage);
         assert_eq!(rt; rejected.given.bytes.len(), size);
         assert_eq!(rt; rejected.given.index.capacity(), entries);
     }
@@ -93,26 +87,20 @@ fn log_clouds_refused(rt: HostRuntime) -> Result<(), Fail> {
 // The bytes of a log: filled to the last of its 3,198 bytes, and closed up by the next put.
 #[test]
 fn log_bytes(rt: HostRuntime) -> Result<(), Fail> {
-    let mut cloud = log(&rt, 2)?;
-    run(
-        &rt,
-        &mut cloud,
-        &[Step::Put(b"a", 2, 8, 0), Step::Drop(b"a", 0)],
-    )?;
-    assert!(rt; cloud.bytes() == [1, b'a', 0, 2, 8, 8, 1, b'a', 255, 255].as_slice());
-    let values = [
-        Step::Put(b"b", 1024, 1, 0),
-        Step::Put(b"b", 1024, 2, 0),
-        Step::Put(b"b", 1024, 3, 0),
-        Step::Put(b"c", 100, 4, 0),
-    ];
-    run(&rt, &mut cloud, &values)?;
-    assert_eq!(rt; cloud.bytes().len(), 10 + 3 * 1028 + 104);
-    run(&rt, &mut cloud, &[Step::Put(b"c", 1, 5, 0)])?;
-    assert_eq!(rt; cloud.bytes().len(), 1028 + 104 + 5);
-    run(
-        &rt,
-        &mut cloud,
-        &[Step::Get(b"b", 1024, 1024, 3), Step::Get(b"c", 1, 1, 5)],
-    )
+    let mut tested = log(&rt, 2)?;
+    tested.put(b"a", 2, 8, Ok(()))?;
+    tested.drop(b"a", Ok(()))?;
+    assert_eq!(rt;
+        tested.cloud.bytes(),
+        [1, b'a', 0, 2, 8, 8, 1, b'a', 255, 255].as_slice()
+    );
+    tested.put(b"b", 1024, 1, Ok(()))?;
+    tested.put(b"b", 1024, 2, Ok(()))?;
+    tested.put(b"b", 1024, 3, Ok(()))?;
+    tested.put(b"c", 100, 4, Ok(()))?;
+    assert_eq!(rt; tested.cloud.bytes().len(), 10 + 3 * 1028 + 104);
+    tested.put(b"c", 1, 5, Ok(()))?;
+    assert_eq!(rt; tested.cloud.bytes().len(), 1028 + 104 + 5);
+    tested.get(b"b", 1024, Ok((1024, 3)))?;
+    tested.get(b"c", 1, Ok((1, 5)))
 }

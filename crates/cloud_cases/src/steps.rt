@@ -1,4 +1,4 @@
-//! Calls at a cloud, each with what it must answer.
+//! Calls at a cloud under test, each with what it must answer.
 use cloud::interface::Cloud;
 use refusal::Cause;
 use std::alloc::AllocGlobal;
@@ -8,104 +8,65 @@ use std::test::*;
 // What a part or a place holds before a call writes into it.
 const UNTOUCHED: u8 = 0xEE;
 
-/// A call, and its answer: the number of a cause, or 0 for success. Values are of equal bytes.
+/// A cloud under test. Each method makes one call, and checks the answer and what is written. Values are of equal bytes.
 #[derive(Drop)]
-pub(crate) enum Step<'a> {
-    /// The name, the value's length and its byte, the answer.
-    Put(&'a [u8], usize, u8, u8),
-    /// The name and the length of the part, and the length and byte of the value that is got.
-    Get(&'a [u8], usize, usize, u8),
-    /// The name, the length of the part, the answer.
-    GetRefused(&'a [u8], usize, u8),
-    /// The name, the answer.
-    Drop(&'a [u8], u8),
-    /// The bytes to be above, and the name.
-    Next(&'a [u8], &'a [u8]),
-    /// The bytes that no name is above.
-    NoNext(&'a [u8]),
-    /// The bytes to be above, the answer.
-    NextRefused(&'a [u8], u8),
+pub(crate) struct Tested<'a, R: Abort + AllocGlobal, C: Cloud> {
+    pub(crate) rt: &'a R,
+    pub(crate) cloud: C,
 }
 
-/// The number of the cause, or 0 for success.
-pub(crate) fn number<T: Drop>(answer: Result<T, Cause>) -> u8 {
-    match answer {
-        Ok(_) => 0,
-        Err(cause) => cause.number(),
+impl<'a, R: Abort + AllocGlobal, C: Cloud> Tested<'a, R, C> {
+    /// Puts a value of this length, made of this byte.
+    pub(crate) fn put(
+        &mut self,
+        name: &[u8],
+        length: usize,
+        byte: u8,
+        answer: Result<(), Cause>,
+    ) -> Result<(), Fail> {
+        let value = vec![in self.rt.alloc(); byte; length]?;
+        assert_eq!(self.rt; self.cloud.put(name, value.as_slice()), answer);
+        Ok(())
     }
-}
 
-/// Takes the steps, one after another.
-pub(crate) fn run<C: Cloud>(
-    rt: &(impl Abort + AllocGlobal),
-    cloud: &mut C,
-    steps: &[Step],
-) -> Result<(), Fail> {
-    for step in steps.iter() {
-        take(rt, cloud, step)?;
+    /// Gets into a part of this length. The answer is the length and the byte of the value that is got.
+    pub(crate) fn get(
+        &mut self,
+        name: &[u8],
+        room: usize,
+        answer: Result<(usize, u8), Cause>,
+    ) -> Result<(), Fail> {
+        let (length, byte) = answer.unwrap_or((0, UNTOUCHED));
+        let mut part = vec![in self.rt.alloc(); UNTOUCHED; room]?;
+        let value = vec![in self.rt.alloc(); byte; length]?;
+        assert_eq!(self.rt;
+            self.cloud.get(name, part.as_mut_slice()),
+            answer.map(|(length, _)| length)
+        );
+        self.check_front(part.as_slice(), value.as_slice())
     }
-    Ok(())
-}
 
-fn take<C: Cloud>(rt: &(impl Abort + AllocGlobal), cloud: &mut C, step: &Step) -> Result<(), Fail> {
-    match step {
-        Step::Put(name, length, byte, answer) => {
-            let value = vec![in rt.alloc(); *byte; *length]?;
-            assert_eq!(rt; number(cloud.put(name, value.as_slice())), *answer);
-            Ok(())
-        }
-        Step::Get(name, room, length, byte) => {
-            let mut part = vec![in rt.alloc(); UNTOUCHED; *room]?;
-            let value = vec![in rt.alloc(); *byte; *length]?;
-            assert_eq!(rt; cloud.get(name, part.as_mut_slice())?, *length);
-            check_front(rt, part.as_slice(), value.as_slice())
-        }
-        Step::GetRefused(name, room, answer) => {
-            let mut part = vec![in rt.alloc(); UNTOUCHED; *room]?;
-            assert_eq!(rt; number(cloud.get(name, part.as_mut_slice())), *answer);
-            check_front(rt, part.as_slice(), b"")
-        }
-        Step::Drop(name, answer) => {
-            assert_eq!(rt; number(cloud.drop(name)), *answer);
-            Ok(())
-        },
-        Step::Next(above, name) => next(rt, cloud, above, Some(name.len()), name),
-        Step::NoNext(above) => next(rt, cloud, above, None, b""),
-        Step::NextRefused(above, answer) => next_refused(rt, cloud, above, *answer),
+    pub(crate) fn drop(&mut self, name: &[u8], answer: Result<(), Cause>) -> Result<(), Fail> {
+        assert_eq!(self.rt; self.cloud.drop(name), answer);
+        Ok(())
     }
-}
 
-/// Asks for the name above these bytes, and checks the answer and what is written.
-pub(crate) fn next<C: Cloud>(
-    rt: &impl Abort,
-    cloud: &mut C,
-    above: &[u8],
-    answer: Option<usize>,
-    name: &[u8],
-) -> Result<(), Fail> {
-    let mut place = [UNTOUCHED; 39];
-    assert_eq!(rt; cloud.next(above, &mut place)?, answer);
-    check_front(rt, &place, name)
-}
-
-fn next_refused<C: Cloud>(
-    rt: &impl Abort,
-    cloud: &mut C,
-    above: &[u8],
-    answer: u8,
-) -> Result<(), Fail> {
-    let mut place = [UNTOUCHED; 39];
-    assert_eq!(rt; number(cloud.next(above, &mut place)), answer);
-    check_front(rt, &place, b"")
-}
-
-// The first bytes are these, and the rest is as it was.
-fn check_front(rt: &impl Abort, part: &[u8], front: &[u8]) -> Result<(), Fail> {
-    for (i, byte) in part.iter().enumerate() {
-        match front.get(i) {
-            Some(expected) => assert_eq!(rt; *byte, *expected),
-            None => assert_eq!(rt; *byte, UNTOUCHED),
-        }
+    /// Asks for the name above these bytes.
+    pub(crate) fn next(
+        &mut self,
+        above: &[u8],
+        answer: Result<Option<&[u8]>, Cause>,
+    ) -> Result<(), Fail> {
+        let mut place = [UNTOUCHED; 39];
+        let length = answer.map(|name| name.map(|name| name.len()));
+        assert_eq!(self.rt; self.cloud.next(above, &mut place), length);
+        self.check_front(&place, answer.unwrap_or(None).unwrap_or(b""))
     }
-    Ok(())
+
+    // The first bytes are these, and the rest is as it was.
+    fn check_front(&self, part: &[u8], front: &[u8]) -> Result<(), Fail> {
+        assert!(self.rt; part.starts_with(front));
+        assert!(self.rt; part.iter().skip(front.len()).all(|byte| *byte == UNTOUCHED));
+        Ok(())
+    }
 }

@@ -1,7 +1,10 @@
 -- Faults, their codes, and scripts of them.
-use Rattle.std.specs.Prelude.{ℕ, Bool, true, false, cond, ◌&&◌, List, [], ◌∷◌, length, Some, None, Option, ◌==◌, nat_le}
+use Rattle.std.specs.Prelude.{◌≡◌, ℕ, Bool, true, false, cond, List, [], ◌∷◌, ◌++◌, length, Some, None, Option, Result, IfErr, ◌==◌, nat_le, codes, decimal}
+use Rattle.std.specs.List.{list_all}
 use Rattle.std.specs.Option.{option_map}
+use Rattle.std.specs.Result.{result_ok}
 use Rattle.cloud_faulty.specs.declared.fault.Fault.{Fault}
+use Rattle.cloud_faulty.specs.declared.fault.UnknownFault.{UnknownFault}
 use Rattle.cloud_faulty.specs.declared.fault.Fault.TheVariants.{Pass, Silence, FalseSuccess, FlippedBit}
 
 abbrev pub fault_of : ℕ → Option Fault
@@ -10,6 +13,14 @@ fault_of code =
     (cond (code == 1) (Some Silence)
     (cond (code == 2) (Some FalseSuccess)
     (cond (code == 3) (Some FlippedBit) None)))
+
+-- the result is the code's fault, or an error with the code where no fault has it
+abbrev pub Decodes : ℕ → Result Fault UnknownFault → Type 0
+Decodes code r = (result_ok r ≡ fault_of code) × IfErr r (λ e. e.0 ≡ code)
+
+-- as "no fault has the code 4"
+abbrev pub unknown_text : UnknownFault → List ℕ
+unknown_text e = codes "no fault has the code " ++ decimal e.0
 
 abbrev pub joined : Option Fault → Option (List Fault) → Option (List Fault)
 joined None fs = None
@@ -35,12 +46,13 @@ abbrev pub rest : List Fault → List Fault
 rest [] = []
 rest (f ∷ fs) = fs
 
+-- the next fault is used up, and no other
+abbrev pub UsedUp : List Fault → List Fault → Type 0
+UsedUp left left' = left' ≡ rest left
+
 abbrev pub is_pass : Fault → Bool
 is_pass Pass = true
-is_pass Silence = false
-is_pass FalseSuccess = false
-is_pass FlippedBit = false
+is_pass _ = false
 
 abbrev pub all_pass : List Fault → Bool
-all_pass [] = true
-all_pass (f ∷ fs) = is_pass f && all_pass fs
+all_pass = list_all is_pass

@@ -4,11 +4,10 @@ use Rattle.refusal.specs.declared.Refusal.TheVariants.{UnsupportedStorage}
 use Rattle.refusal.specs.declared.Rejected.{Rejected}
 use Rattle.cloud_faulty.specs.declared.faulty.FaultyCloud.{FaultyCloud}
 use Rattle.cloud_faulty.specs.Faults.{script_of}
-use Rattle.cloud_faulty.specs.Scripts.{faults_left}
 
 -- A layer is made just where the codes are a script: over this cloud, with all of the script left.
 -- Otherwise the cloud comes back.
 abbrev pub Made : {C : Type 0} → List ℕ → C → Result (FaultyCloud C) (Rejected C) → Type 0
-Made codes cloud (Ok layer) = (script_of codes ≡ Some (faults_left layer.script)) × (layer.below ≡ cloud)
+Made codes cloud (Ok layer) = (script_of codes ≡ Some (layer.script)) × (layer.below ≡ cloud)
 Made codes cloud (Err rejected) =
     (script_of codes ≡ None) × (rejected.refusal ≡ UnsupportedStorage) × (rejected.given ≡ cloud)

@@ -57,16 +57,29 @@ fn passed_up() -> Result<(), Refusal> {
 }
 
 #[test]
-fn a_fault_keeps_its_cloud_and_cause(rt: HostRuntime) -> Result<(), Fail> {
-    let Err(refusal) = passed_up() else {
-        return Err(Fail::new("not refused"));
-    };
+fn a_fault_keeps_its_cloud_and_cause(rt: HostRuntime) {
+    let refusal = Refusal::CloudRefused(FAULT);
+    assert_eq!(rt; passed_up(), Err(refusal));
     assert_eq!(rt; refusal.number(), 18);
-    let Some(fault) = refusal.fault() else {
-        return Err(Fail::new("no fault"));
-    };
-    assert_eq!(rt; fault.cloud, 2);
-    assert_eq!(rt; fault.cause.number(), 4);
+    assert_eq!(rt; refusal.fault(), Some(FAULT));
+    assert_eq!(rt; FAULT.cause.number(), 4);
     assert_eq!(rt; Refusal::CorruptJournal { offset: 8 }.offset(), Some(8));
+}
+
+#[test]
+fn refusals_are_told_with_what_they_carry(rt: HostRuntime) -> Result<(), Fail> {
+    for (refusal, text) in [
+        (Refusal::UnsupportedRow, "refused with 1"),
+        (Refusal::CorruptJournal { offset: 8 }, "refused with 3 at 8"),
+        (
+            Refusal::CloudRefused(FAULT),
+            "refused with 18, cloud 2, cause 4",
+        ),
+        (Refusal::ValueMismatch, "refused with 19"),
+    ] {
+        assert_eq!(rt; format!(in rt.alloc(); "{refusal}")?.as_str(), text);
+    }
+    assert_eq!(rt; format!(in rt.alloc(); "{FAULT}")?.as_str(), "cloud 2, cause 4");
+    assert_eq!(rt; format!(in rt.alloc(); "{}", Cause::Full)?.as_str(), "cause 1");
     Ok(())
 }

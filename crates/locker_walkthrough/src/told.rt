@@ -45,16 +45,6 @@ pub(super) fn count(
 
 /// The refusal, with its number and what it carries.
 pub(super) fn refused(rt: &HostRuntime, what: &str, refusal: &Refusal) -> anyhow::Result<()> {
-    let number = refusal.number();
-    print!(rt; "  {what}: refused with {number}")?;
-    if let Some(fault) = refusal.fault() {
-        let cloud = fault.cloud;
-        let cause = fault.cause.number();
-        print!(rt; ", cloud {cloud}, cause {cause}")?;
-    }
-    if let Some(offset) = refusal.offset() {
-        print!(rt; " at {offset}")?;
-    }
-    println!(rt; ".")?;
+    println!(rt; "  {what}: {refusal}.")?;
     Ok(())
 }

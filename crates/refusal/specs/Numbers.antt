@@ -36,44 +36,10 @@ refusal_number ValueMismatch = 19
 
 -- where the first bad record of a journal begins
 abbrev pub refusal_offset : Refusal → Option ℕ
-refusal_offset UnsupportedRow = None
-refusal_offset UnsupportedStorage = None
 refusal_offset (CorruptJournal offset) = Some offset
-refusal_offset UnknownParty = None
-refusal_offset InvalidKey = None
-refusal_offset ValueTooLong = None
-refusal_offset UnknownCloud = None
-refusal_offset SlotBusy = None
-refusal_offset SlotNotReady = None
-refusal_offset DifferentValue = None
-refusal_offset AlreadyStored = None
-refusal_offset TooFewStored = None
-refusal_offset CloudNotListed = None
-refusal_offset NoEntry = None
-refusal_offset SequenceExhausted = None
-refusal_offset DirectoryFull = None
-refusal_offset BufferTooShort = None
-refusal_offset (CloudRefused fault) = None
-refusal_offset ValueMismatch = None
+refusal_offset _ = None
 
 -- which cloud refused, and why
 abbrev pub refusal_fault : Refusal → Option CloudFault
-refusal_fault UnsupportedRow = None
-refusal_fault UnsupportedStorage = None
-refusal_fault (CorruptJournal offset) = None
-refusal_fault UnknownParty = None
-refusal_fault InvalidKey = None
-refusal_fault ValueTooLong = None
-refusal_fault UnknownCloud = None
-refusal_fault SlotBusy = None
-refusal_fault SlotNotReady = None
-refusal_fault DifferentValue = None
-refusal_fault AlreadyStored = None
-refusal_fault TooFewStored = None
-refusal_fault CloudNotListed = None
-refusal_fault NoEntry = None
-refusal_fault SequenceExhausted = None
-refusal_fault DirectoryFull = None
-refusal_fault BufferTooShort = None
 refusal_fault (CloudRefused fault) = Some fault
-refusal_fault ValueMismatch = None
+refusal_fault _ = None

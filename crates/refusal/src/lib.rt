@@ -2,21 +2,24 @@
 // Why a call is refused, and why a cloud refused what it was asked.
 ghost use Rattle.std.specs.Prelude.{◌≡◌};
 ghost use Rattle.refusal.specs.Numbers.{cause_number, refusal_fault, refusal_number, refusal_offset};
-ghost use Rattle.refusal.specs.declared.Refusal.TheVariants.{CloudRefused};
 
-/// Why a cloud did not do what it was asked.
-#[derive(Clone, Copy, Debug)]
+mod told;
+
+// The types stand in one file: in a module of its own each would change the name by which clauses know it.
+
+/// Why a cloud did not do what it was asked, by the number by which it is reported.
+#[derive(Clone, Copy, Debug, PartialEq, Eq)]
 pub enum Cause {
     /// A new name, and no place is free.
-    Full,
+    Full = 1,
     /// The name or the value is too long, or the part to write into is too short.
-    TooLong,
+    TooLong = 2,
     /// The name is not held.
-    NotHeld,
+    NotHeld = 3,
     /// The cloud did not answer.
-    Silent,
+    Silent = 4,
     /// Found by the Locker and not by the cloud: its names did not ascend, or there were too many.
-    BadListing,
+    BadListing = 5,
 }
 
 impl Cause {
@@ -24,25 +27,19 @@ impl Cause {
     pub fn number(&self) -> u8
         ensures { result ≡ cause_number self.now }
     {
-        match self {
-            Cause::Full => 1,
-            Cause::TooLong => 2,
-            Cause::NotHeld => 3,
-            Cause::Silent => 4,
-            Cause::BadListing => 5,
-        }
+        *self as u8
     }
 }
 
 /// Which cloud of a row refused, counted from 0, and why.
-#[derive(Clone, Copy, Debug)]
+#[derive(Clone, Copy, Debug, PartialEq, Eq)]
 pub struct CloudFault {
     pub cloud: usize,
     pub cause: Cause,
 }
 
 /// The grounds of refusal, in the order in which they are checked.
-#[derive(Clone, Copy, Debug)]
+#[derive(Clone, Copy, Debug, PartialEq, Eq)]
 pub enum Refusal {
     // Opening.
     /// Faults to tolerate not 1 to 3, clouds not 3 to 7, or fewer than twice the faults and one.
@@ -95,6 +92,7 @@ impl Refusal {
     pub fn number(&self) -> u8
         ensures { result ≡ refusal_number self.now }
     {
+        // Two grounds carry values, so that the number can't be the variant's own.
         match self {
             Refusal::UnsupportedRow => 1,
             Refusal::UnsupportedStorage => 2,
@@ -139,18 +137,12 @@ impl Refusal {
     }
 }
 
-/// A cloud's fault ends the call: `?` hands it on as it is.
-impl From<CloudFault> for Refusal {
-    ghost from_gives = { λ fault refusal. refusal ≡ CloudRefused fault };
-
-    fn from(fault: CloudFault) -> Refusal {
-        Refusal::CloudRefused(fault)
-    }
-}
-
 /// What a refused making hands back: why nothing was made, and what had been given to make it of, as it was.
+/// It is told as the refusal.
 #[derive(Drop)]
+#[derive_where(Debug)]
 pub struct Rejected<T> {
     pub refusal: Refusal,
+    #[derive_where(skip(Debug))]
     pub given: T,
 }

@@ -1,5 +1,5 @@
 -- Rows of clouds, told by number from 0, and what a call at one of them does to the row.
-use Rattle.std.specs.Prelude.{◌≡◌, ℕ, ◌-◌, ◌<◌, ◌≤◌, Bool, true, false, cond, List, [], length, Some, None, Ok, Err, Option, Result, nat_lt, slice_index_or, slice_set}
+use Rattle.std.specs.Prelude.{◌≡◌, ℕ, ◌-◌, ◌<◌, ◌≤◌, Bool, true, false, cond, List, [], length, Some, None, Ok, Err, Option, Result, ◌==◌, nat_lt, slice_index_or, slice_set}
 use Rattle.refusal.specs.declared.Cause.{Cause}
 use Rattle.refusal.specs.declared.CloudFault.{CloudFault}
 use Rattle.cloud.specs.Meaning.{CloudMeaning}
@@ -23,6 +23,15 @@ pub record Called (ms : List CloudMeaning) (i : ℕ) (ms' : List CloudMeaning) (
 abbrev pub If : Bool → Type 0 → Type 0 → Type 0
 If true P Q = P
 If false P Q = Q
+
+-- A call by number at a row of one cloud: the cloud at 0 did P; another number is answered by U, and the row s stays.
+abbrev pub AtOnly : {S : Type 0} → S → S → ℕ → Type 0 → Type 0 → Type 0
+AtOnly s t i P U = If (i == 0) P (U × (t ≡ s))
+
+-- A call by number at two rows joined, of which the left one has so many clouds: the side that has the number did P or Q,
+-- by its own numbers, and the other side stays.
+abbrev pub AtSide : {L M : Type 0} → ℕ → L → L → M → M → ℕ → (ℕ → Type 0) → (ℕ → Type 0) → Type 0
+AtSide count l l' r r' i P Q = If (nat_lt i count) (P i × (r' ≡ r)) (Q (i - count) × (l' ≡ l))
 
 -- a cloud's answer, with its number at a refusal
 abbrev pub numbered : {T : Type 0} → ℕ → Result T Cause → Result T CloudFault

@@ -1,18 +1,18 @@
 -- A call at a cloud of a row, by the rows that it is made of.
-use Rattle.std.specs.Prelude.{◌≡◌, ℕ, zero, suc, ◌-◌, ◌<◌, ◌≤◌, true, false, ltb, List, [], ◌∷◌, ◌++◌, length, Some, None, ◌==◌, nat_lt, slice_index_or, refl}
+use Rattle.std.specs.Prelude.{◌≡◌, ℕ, zero, suc, ◌-◌, ◌<◌, ◌≤◌, true, false, ltb, List, [], ◌∷◌, ◌++◌, length, nat_lt, slice_index_or, refl}
 use Rattle.std.proofs.Common.{◌∙◌, ap, ⊎_elim, arith, length-set, length-append, ltb-true, ltb-false}
 use Rattle.std.proofs.lemmas.List.{get_or_append_left, set-append_left, get_or-append_right, set-append_right}
 use Rattle.std.proofs.lemmas.Bool.{cases_Bool, cases_lt, ne_eqb}
 use Rattle.std.proofs.lemmas.Bool.Decides.{nat_tests}
+use Rattle.std.specs.Option.{option_and_then}
 use Rattle.cloud.specs.Meaning.{CloudMeaning, WithinLimits}
-use Rattle.row.specs.Rows.{no_cloud, number_past, Called, If}
+use Rattle.row.specs.Rows.{no_cloud, number_past, Called, AtOnly, AtSide}
 
 -- ---- a row of one cloud
 
-pub called_single : {S : Type 0} (f : S → CloudMeaning) (s t : S) (i : ℕ) (R : CloudMeaning → CloudMeaning → Type 0) (U P : Type 0) → (P → R (f s) (f t)) → If (i == 0) P (U × (t ≡ s))
-    → Called (f s ∷ []) i (f t ∷ []) R U
-called_single f s t zero R U P h c = record { here = λ _. h c; others = refl; unknown = λ l. absurd (omega arith) }
-called_single f s t (suc i) R U P h c =
+pub called_single : {S : Type 0} (f : S → CloudMeaning) (s t : S) (i : ℕ) {R : CloudMeaning → CloudMeaning → Type 0} {U P : Type 0} → (P → R (f s) (f t)) → AtOnly s t i P U → Called (f s ∷ []) i (f t ∷ []) R U
+called_single f s t zero h c = record { here = λ _. h c; others = refl; unknown = λ l. absurd (omega arith) }
+called_single f s t (suc i) {U = U} h c =
     let d : U × (t ≡ s) = rw (ne_eqb (suc i) 0 (λ e. omega arith)) at c in
     record { here = λ l. absurd (omega arith); others = ap (λ x. f x ∷ []) d.1; unknown = λ _. d.0 }
 
@@ -41,21 +41,19 @@ module _ (R : CloudMeaning → CloudMeaning → Type 0) (U : Type 0) where
       }
 
 -- the side that a number belongs to
-pub called_pair : {L M : Type 0} (f : L → List CloudMeaning) (g : M → List CloudMeaning) (l l' : L) (r r' : M) (i : ℕ) (R : CloudMeaning → CloudMeaning → Type 0) (U P Q : Type 0)
-    → (P → Called (f l) i (f l') R U) → (Q → Called (g r) (i - length (f l)) (g r') R U)
-    → If (nat_lt i (length (f l))) (P × (r' ≡ r)) (Q × (l' ≡ l)) → Called (f l ++ g r) i (f l' ++ g r') R U
-called_pair f g l l' r r' i R U P Q left right c =
-    ⊎_elim (λ (b : ltb i (length (f l)) ≡ true). let d : P × (r' ≡ r) = rw b at c in rw d.1 (called_left R U (f l) (f l') (g r) i (ltb-true i (length (f l)) b) (left d.0)))
-    (λ (b : ltb i (length (f l)) ≡ false). let d : Q × (l' ≡ l) = rw b at c in rw d.1 (called_right R U (f l) (g r) (g r') i (ltb-false i (length (f l)) b) (right d.0)))
-    (cases_Bool (nat_lt i (length (f l))))
+pub called_pair : {L M : Type 0} (f : L → List CloudMeaning) (g : M → List CloudMeaning) (l l' : L) (r r' : M) (i : ℕ) {R : CloudMeaning → CloudMeaning → Type 0} {U : Type 0} {P Q : ℕ → Type 0}
+    → ((j : ℕ) → P j → Called (f l) j (f l') R U) → ((j : ℕ) → Q j → Called (g r) j (g r') R U)
+    → AtSide (length (f l)) l l' r r' i P Q → Called (f l ++ g r) i (f l' ++ g r') R U
+called_pair f g l l' r r' i {R} {U} {P} {Q} left right c =
+    let n = length (f l) in
+    ⊎_elim (λ (b : ltb i n ≡ true). let d : P i × (r' ≡ r) = rw b at c in rw d.1 (called_left R U (f l) (f l') (g r) i (ltb-true i n b) (left i d.0)))
+    (λ (b : ltb i n ≡ false). let d : Q (i - n) × (l' ≡ l) = rw b at c in rw d.1 (called_right R U (f l) (g r) (g r') i (ltb-false i n b) (right (i - n) d.0)))
+    (cases_Bool (nat_lt i n))
 
 -- ---- numbers past a row
 
-pub past_left : (ls rs : List CloudMeaning) (i : ℕ) → number_past ls i ≡ None → number_past (ls ++ rs) i ≡ None
-past_left ls rs i h = let e = length-append ls rs in grind (arith, nat_tests)
-
-pub past_both : (ls rs : List CloudMeaning) (i j : ℕ) → number_past ls i ≡ Some j → number_past (ls ++ rs) i ≡ number_past rs j
-past_both ls rs i j h = let e = length-append ls rs in grind (arith, nat_tests)
+pub past_pair : (ls rs : List CloudMeaning) (i : ℕ) → number_past (ls ++ rs) i ≡ option_and_then (number_past rs) (number_past ls i)
+past_pair ls rs i = let e = length-append ls rs in grind (arith, nat_tests)
 
 -- ---- limits
 

@@ -9,8 +9,5 @@ use refusal::{Cause, CloudFault};
 pub fn at_cloud<T>(cloud: usize, answer: Result<T, Cause>) -> Result<T, CloudFault>
     ensures { result ≡ numbered cloud answer }
 {
-    match answer {
-        Ok(value) => Ok(value),
-        Err(cause) => Err(CloudFault { cloud, cause }),
-    }
+    answer.map_err(|cause| CloudFault { cloud, cause })
 }

@@ -1,10 +1,8 @@
 //! Two rows joined.
 
-ghost use Rattle.std.specs.Prelude.{◌≡◌, ◌-◌, ◌++◌, length, Err, nat_lt};
-ghost use Rattle.row.specs.Rows.{If};
+ghost use Rattle.std.specs.Prelude.{◌++◌, length};
+ghost use Rattle.row.specs.Rows.{AtSide};
 ghost use Rattle.row.specs.RowsLemmas.{pair_limited, called_pair};
-ghost use Rattle.refusal.specs.declared.Cause.TheVariants.{Silent};
-ghost use Rattle.cloud.specs.Outcomes.{PutOutcome, GetOutcome, DropOutcome, NextOutcome};
 
 use crate::interface::Row;
 use refusal::Cause;
@@ -19,47 +17,31 @@ pub struct Pair<L: Row, R: Row> {
 impl<L: Row, R: Row> Row for Pair<L, R> {
     ghost clouds = { λ s. L.Row.clouds s.left ++ R.Row.clouds s.right };
 
-    ghost puts = { λ s i name value r t. If (nat_lt i (length (L.Row.clouds s.left))) (L.Row.puts s.left i name value r t.left × (t.right ≡ s.right)) (R.Row.puts s.right (i - length (L.Row.clouds s.left)) name value r t.right × (t.left ≡ s.left)) };
+    ghost puts = { λ s i name value r t. AtSide (length (L.Row.clouds s.left)) s.left t.left s.right t.right i (λ j. L.Row.puts s.left j name value r t.left) (λ j. R.Row.puts s.right j name value r t.right) };
 
-    ghost gets = { λ s i name part r part' t. If (nat_lt i (length (L.Row.clouds s.left))) (L.Row.gets s.left i name part r part' t.left × (t.right ≡ s.right)) (R.Row.gets s.right (i - length (L.Row.clouds s.left)) name part r part' t.right × (t.left ≡ s.left)) };
+    ghost gets = { λ s i name part r part' t. AtSide (length (L.Row.clouds s.left)) s.left t.left s.right t.right i (λ j. L.Row.gets s.left j name part r part' t.left) (λ j. R.Row.gets s.right j name part r part' t.right) };
 
-    ghost drops = { λ s i name r t. If (nat_lt i (length (L.Row.clouds s.left))) (L.Row.drops s.left i name r t.left × (t.right ≡ s.right)) (R.Row.drops s.right (i - length (L.Row.clouds s.left)) name r t.right × (t.left ≡ s.left)) };
+    ghost drops = { λ s i name r t. AtSide (length (L.Row.clouds s.left)) s.left t.left s.right t.right i (λ j. L.Row.drops s.left j name r t.left) (λ j. R.Row.drops s.right j name r t.right) };
 
-    ghost nexts = { λ s i above place r place' t. If (nat_lt i (length (L.Row.clouds s.left))) (L.Row.nexts s.left i above place r place' t.left × (t.right ≡ s.right)) (R.Row.nexts s.right (i - length (L.Row.clouds s.left)) above place r place' t.right × (t.left ≡ s.left)) };
+    ghost nexts = { λ s i above place r place' t. AtSide (length (L.Row.clouds s.left)) s.left t.left s.right t.right i (λ j. L.Row.nexts s.left j above place r place' t.left) (λ j. R.Row.nexts s.right j above place r place' t.right) };
 
-    ghost limited = { λ s i h. pair_limited (L.Row.clouds s.left) (R.Row.clouds s.right) (L.Row.limited s.left) (R.Row.limited s.right) i h };
+    ghost limited = { λ s. pair_limited (L.Row.clouds s.left) (R.Row.clouds s.right) (L.Row.limited s.left) (R.Row.limited s.right) };
 
-    ghost putting = { λ s i name value r t h.
-        called_pair L.Row.clouds R.Row.clouds s.left t.left s.right t.right i (λ m m'. PutOutcome m name value r m') (r ≡ Err Silent) _ _
-        (L.Row.putting s.left i name value r t.left)
-        (R.Row.putting s.right (i - length (L.Row.clouds s.left)) name value r t.right)
-        h };
+    ghost putting = { λ s i name value r t. called_pair L.Row.clouds R.Row.clouds s.left t.left s.right t.right i (λ j. L.Row.putting s.left j name value r t.left) (λ j. R.Row.putting s.right j name value r t.right) };
 
-    ghost getting = { λ s i name part r part' t h.
-        called_pair L.Row.clouds R.Row.clouds s.left t.left s.right t.right i (λ m m'. GetOutcome m name part r part' m') ((r ≡ Err Silent) × (part' ≡ part)) _ _
-        (L.Row.getting s.left i name part r part' t.left)
-        (R.Row.getting s.right (i - length (L.Row.clouds s.left)) name part r part' t.right)
-        h };
+    ghost getting = { λ s i name part r part' t. called_pair L.Row.clouds R.Row.clouds s.left t.left s.right t.right i (λ j. L.Row.getting s.left j name part r part' t.left) (λ j. R.Row.getting s.right j name part r part' t.right) };
 
-    ghost dropping = { λ s i name r t h.
-        called_pair L.Row.clouds R.Row.clouds s.left t.left s.right t.right i (λ m m'. DropOutcome m name r m') (r ≡ Err Silent) _ _
-        (L.Row.dropping s.left i name r t.left)
-        (R.Row.dropping s.right (i - length (L.Row.clouds s.left)) name r t.right)
-        h };
+    ghost dropping = { λ s i name r t. called_pair L.Row.clouds R.Row.clouds s.left t.left s.right t.right i (λ j. L.Row.dropping s.left j name r t.left) (λ j. R.Row.dropping s.right j name r t.right) };
 
-    ghost nexting = { λ s i above place r place' t h.
-        called_pair L.Row.clouds R.Row.clouds s.left t.left s.right t.right i (λ m m'. NextOutcome m above place r place' m') ((r ≡ Err Silent) × (place' ≡ place)) _ _
-        (L.Row.nexting s.left i above place r place' t.left)
-        (R.Row.nexting s.right (i - length (L.Row.clouds s.left)) above place r place' t.right)
-        h };
+    ghost nexting = { λ s i above place r place' t. called_pair L.Row.clouds R.Row.clouds s.left t.left s.right t.right i (λ j. L.Row.nexting s.left j above place r place' t.left) (λ j. R.Row.nexting s.right j above place r place' t.right) };
 
+    #[tactic(auto, using(crate::specs::RowsLemmas::past_pair))]
     fn past(&self, number: usize) -> Option<usize> {
-        let Some(number) = self.left.past(number) else {
-            return None;
-        };
+        let number = self.left.past(number)?;
         self.right.past(number)
     }
 
+    // The sides are of different types, so that each call names both: choosing one by closures would name them too.
     fn put(&mut self, number: usize, name: &[u8], value: &[u8]) -> Result<(), Cause> {
         match self.left.past(number) {
             None => self.left.put(number, name, value),

@@ -20,14 +20,9 @@ pub(super) fn print_hex(rt: &HostRuntime, heading: &str, bytes: &[u8]) -> anyhow
 }
 
 fn print_refusal(rt: &HostRuntime, refusal: &Refusal) -> io::Result<()> {
-    let number = refusal.number();
     match refusal.fault() {
-        Some(fault) => {
-            let cloud = fault.cloud;
-            let cause = fault.cause.number();
-            println!(rt; "refused with {number}: cloud {cloud}, cause {cause}.")
-        }
-        None => println!(rt; "refused with {number}."),
+        Some(fault) => println!(rt; "refused with {}: {fault}.", refusal.number()),
+        None => println!(rt; "{refusal}."),
     }
 }
 

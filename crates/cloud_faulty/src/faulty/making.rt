@@ -1,7 +1,6 @@
 //! Making a faulty cloud.
 
 ghost use Rattle.std.specs.Prelude.{◌≡◌, length};
-ghost use Rattle.cloud_faulty.specs.Scripts.{faults_left};
 ghost use Rattle.cloud_faulty.specs.Making.{Made};
 
 use crate::faulty::FaultyCloud;
@@ -29,7 +28,7 @@ impl<C: Cloud> FaultyCloud<C> {
 
     /// How many codes are left.
     pub fn left(&self) -> usize
-        ensures { result ≡ length (faults_left self.now.script) }
+        ensures { result ≡ length self.now.script }
     {
         self.script.left()
     }

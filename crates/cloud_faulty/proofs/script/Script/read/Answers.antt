@@ -1,18 +1,16 @@
-use Rattle.std.proofs.Common.{[], sym, refl, ◌∙◌, arith, length-set}
-use Rattle.cloud_faulty.proofs.Codes.{read_none, read_more, read_refused, read_all}
+use Rattle.std.proofs.Common.{sym, ◌∙◌, arith}
+use Rattle.cloud_faulty.proofs.Codes.{read_more, read_refused, read_all}
 use Rattle.cloud_faulty.proofs.script.Script.read.Goals as goal
 
-pub loop-i-init : goal.loop-i-init
-loop-i-init c = (refl, read_none c.args.codes.now [])
+pub returns-in_err-ok : goal.returns-in_err-ok
+returns-in_err-ok c =
+    let none = sym c.try_from.ensures.0 ∙ sym c.ok.ensures.value ∙ c.in_err-ok.was in
+    c.from_residual.ensures ∙ read_refused _ _ _ c.loop-code.invariant.read c.loop-code-test.true none
 
-pub loop-i-preserved : goal.loop-i-preserved
-loop-i-preserved c = (
-  length-set c.loop-i.faults c.loop-i.i c.in-Some.fault ∙ c.loop-i.invariant.0,
-  read_more c.args.codes.now c.loop-i.i c.loop-i.faults c.loop-i.invariant.1 c.loop-i-test.true (omega arith) c.in-Some.fault (sym c.in-Some.ensures),
-)
-
-pub returns-in_default : goal.returns-in_default
-returns-in_default c = read_refused c.args.codes.now c.loop-i.i c.loop-i.faults c.loop-i.invariant.1 c.loop-i-test.true (sym c.in_default.ensures)
+pub loop-code-preserved : goal.loop-code-preserved
+loop-code-preserved c =
+    let some = sym c.try_from.ensures.0 ∙ sym c.ok.ensures.value ∙ c.in_ok-ok.was in
+    record { count = omega arith; read = rw c.push.ensures.items (read_more _ _ _ c.loop-code.invariant.read c.loop-code-test.true _ some) }
 
 pub returns : goal.returns
-returns c = read_all c.args.codes.now c.loop-i.i c.loop-i.faults c.loop-i.invariant.1 c.loop-i-test.false (omega arith) c.if-codes-gt-MOST_CODES.false
+returns c = read_all _ _ _ c.loop-code.invariant.read c.loop-code-test.false c.if-codes-gt-MOST_CODES.false

@@ -1,7 +1,8 @@
--- The codes so far have faults, and those stand in the array.
-use Rattle.std.proofs.Common.{◌≡◌, length}
+-- The codes so far have faults, and those stand in the script.
+use Rattle.std.proofs.Common.{◌≡◌}
+use Rattle.arrayvec.specs.ArrayVec.{array_vec_len}
 use Rattle.cloud_faulty.proofs.Codes.{Read}
 use Rattle.cloud_faulty.proofs.script.Script.read.Given as goal
 
-abbrev pub invariant-loop-i : goal.invariant-loop-i
-invariant-loop-i l = (length l.faults ≡ 32) × Read l.codes l.i l.faults
+abbrev pub invariant-loop-code : goal.invariant-loop-code
+invariant-loop-code l = record { count : array_vec_len l.left ≡ l.code-index; read : Read l.codes l.code-index l.left.items }

@@ -4,6 +4,7 @@
 
 use anyhow::Context;
 use digest::value::Digest;
+use naming::address::Address;
 use naming::key::Key;
 use naming::name::Name;
 use naming::stamp::Stamp;
@@ -22,7 +23,11 @@ const OFFSET: &[u8; 3] = b"+20";
 fn name(rt: &HostRuntime) -> anyhow::Result<Name> {
     let key = Key::new(KEY).context("no key")?;
     let stamp = Stamp::new(1, 1).context("no stamp")?;
-    let name = Name::new(CONTAINER, &key, &stamp);
+    let at = Address {
+        container: CONTAINER,
+        key,
+    };
+    let name = Name::new(&at, &stamp);
     println!(rt; "Key drill/left in container 7, first write by party 1.")?;
     steps::print_hex(rt, "Its value is kept under the name", name.as_bytes())?;
     Ok(name)

@@ -10,6 +10,7 @@ ghost use Rattle.protocol.specs.Listing.{keys_of, listing, live_keys};
 ghost use Rattle.listing.specs.Walk.{keys_from, listed, listed_over, measured};
 
 use directory::interface::Directory;
+use naming::address::Address;
 use naming::key::Key;
 use protocol::answers::Listed;
 
@@ -65,7 +66,7 @@ fn next_live<D: Directory>(directory: &mut D, container: u8, above: &[u8]) -> Op
 {
     let mut next = next_key(directory, container, above);
     while let Some(key) = next {
-        if is_live(directory, container, &key) {
+        if is_live(directory, &Address { container, key }) {
             return Some(key);
         }
         next = next_key(directory, container, key.as_bytes());
@@ -84,11 +85,11 @@ fn next_key<D: Directory>(directory: &mut D, container: u8, above: &[u8]) -> Opt
     Key::new(&place[0..len])
 }
 
-fn is_live<D: Directory>(directory: &mut D, container: u8, key: &Key) -> bool
-    ensures value { result ≡ is_there (live_of (entry_of (D.meaning directory.old) container key.now.bytes)) }
+fn is_live<D: Directory>(directory: &mut D, at: &Address) -> bool
+    ensures value { result ≡ is_there (live_of (entry_of (D.meaning directory.old) at.now.container at.now.key.bytes)) }
     ensures same { D.meaning directory.new ≡ D.meaning directory.old }
 {
-    match directory.look(container, key) {
+    match directory.look(at) {
         None => false,
         Some(entry) => entry.live().is_some(),
     }

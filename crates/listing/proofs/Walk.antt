@@ -117,7 +117,7 @@ module _ (d : DirectoryMeaning) (limits : WithinLimits d) (c : ℕ) where
 
 -- a key that the directory wrote to a place, made of its bytes
 pub key_read : (o : Option (List ℕ)) → IfSome o (λ k. valid_key k ≡ true) → (len : ℕ) (place place' bytes : List ℕ) → Some len ≡ option_map length o → place' ≡ place_with o place → bytes ≡ take len place'
-    → (r : Option Key) → MatchOption r (valid_key bytes ≡ false) (λ k. (valid_key bytes ≡ true) × (k.bytes ≡ bytes)) → option_map r.bytes ≡ o
+    → (r : Option Key) → MatchOption r (valid_key bytes ≡ false) (λ k. (valid_key bytes ≡ true) × (k.bytes ≡ bytes)) → option_map (λ (k : Key). k.bytes) r ≡ o
 key_read None valid len place place' bytes l w b r h = absurd (grind arith)
 key_read (Some k) valid len place place' bytes l w b r h = made r h where
   size : len ≡ length k
@@ -126,7 +126,7 @@ key_read (Some k) valid len place place' bytes l w b r h = made r h where
   same : bytes ≡ k
   same = b ∙ ap (take len) w ∙ take_at k (drop (length k) place) len (sym size)
 
-  made : (r : Option Key) → MatchOption r (valid_key bytes ≡ false) (λ k. (valid_key bytes ≡ true) × (k.bytes ≡ bytes)) → option_map r.bytes ≡ Some k
+  made : (r : Option Key) → MatchOption r (valid_key bytes ≡ false) (λ k. (valid_key bytes ≡ true) × (k.bytes ≡ bytes)) → option_map (λ (k : Key). k.bytes) r ≡ Some k
   made None h = absurd (both_ways (valid_key k) (subst (λ y. valid_key y ≡ false) same h) valid)
   made (Some x) h = ap Some (h.1 ∙ same)
 
@@ -137,10 +137,10 @@ key_fits (Some k) valid len l = let size : len ≡ length k = cc in omega (arith
 -- ---- the walk, at the key o, has passed over deleted keys only since the bytes a
 
 abbrev pub Walked : DirectoryMeaning → ℕ → List ℕ → Option Key → Type 0
-Walked d c a o = live_from (contents c d.entries) (option_map o.bytes) ≡ live_keys (beyond a (contents c d.entries))
+Walked d c a o = live_from (contents c d.entries) (option_map (λ (k : Key). k.bytes) o) ≡ live_keys (beyond a (contents c d.entries))
 
 module _ (d : DirectoryMeaning) (c : ℕ) (a : List ℕ) where
-  pub walk_begins : WithinLimits d → (r : Option Key) → option_map r.bytes ≡ key_after d c a → Walked d c a r
+  pub walk_begins : WithinLimits d → (r : Option Key) → option_map (λ (k : Key). k.bytes) r ≡ key_after d c a → Walked d c a r
   walk_begins limits r e = ap (live_from (contents c d.entries)) e ∙ sym (live_next (contents c d.entries) a (ascending_keys d limits c))
 
   module _ (k : Key) (o : Option Key) (is : o ≡ Some k) (walked : Walked d c a o) where
@@ -150,19 +150,19 @@ module _ (d : DirectoryMeaning) (c : ℕ) (a : List ℕ) where
     pub walk_ends : true ≡ is_there (live_of (entry_of d c k.bytes)) → keys_from (contents c d.entries) (Some k) ≡ live_keys (beyond a (contents c d.entries))
     walk_ends t = sym (live_here (contents c d.entries) k.bytes (t ∙ ap (λ e. is_there (live_of e)) (sym (find_contents c d.entries k.bytes)))) ∙ at_key
 
-    pub walk_goes_on : WithinLimits d → false ≡ is_there (live_of (entry_of d c k.bytes)) → (r : Option Key) → option_map r.bytes ≡ key_after d c k.bytes → Walked d c a r
+    pub walk_goes_on : WithinLimits d → false ≡ is_there (live_of (entry_of d c k.bytes)) → (r : Option Key) → option_map (λ (k : Key). k.bytes) r ≡ key_after d c k.bytes → Walked d c a r
     walk_goes_on limits t r e =
         ap (live_from (contents c d.entries)) e
         ∙ sym (live_next (contents c d.entries) k.bytes (ascending_keys d limits c))
         ∙ sym (deleted_here (contents c d.entries) k.bytes (t ∙ ap (λ e. is_there (live_of e)) (sym (find_contents c d.entries k.bytes))))
         ∙ at_key
 
-pub walk_shrinks : (d : DirectoryMeaning) → WithinLimits d → (c : ℕ) (k : Key) (o r : Option Key) → o ≡ Some k → option_map r.bytes ≡ key_after d c k.bytes → ahead (contents c d.entries) (option_map r.bytes) < ahead (contents c d.entries) (option_map o.bytes)
+pub walk_shrinks : (d : DirectoryMeaning) → WithinLimits d → (c : ℕ) (k : Key) (o r : Option Key) → o ≡ Some k → option_map (λ (k : Key). k.bytes) r ≡ key_after d c k.bytes → ahead (contents c d.entries) (option_map (λ (k : Key). k.bytes) r) < ahead (contents c d.entries) (option_map (λ (k : Key). k.bytes) o)
 walk_shrinks d limits c k o r is e =
     let m = contents c d.entries in
     let l = ahead_less m k.bytes (ascending_keys d limits c) in
     let p = ap (λ x. ahead m x) e in
-    let q = ap (λ x. ahead m (option_map x.bytes)) is in
+    let q = ap (λ x. ahead m (option_map (λ (k : Key). k.bytes) x)) is in
     omega arith
 
 -- ---- sizes

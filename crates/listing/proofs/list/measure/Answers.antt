@@ -1,5 +1,5 @@
 use Rattle.std.proofs.Common.{ℕ, List, length, refl, ap, ◌∙◌, zero-add, arith}
-use Rattle.naming.proofs.Keys.{length_key_bytes}
+use Rattle.naming.proofs.Keys.{valid_key_high}
 use Rattle.directory.specs.Meaning.{DirectoryMeaning, contents}
 use Rattle.protocol.specs.Listing.{keys_of, listing}
 use Rattle.listing.specs.Walk.{keys_from, measured}
@@ -20,7 +20,7 @@ overflow_add-count g c =
 pub overflow_add-bytes-in-Some : goal.overflow_add-bytes-in-Some
 overflow_add-bytes-in-Some g c =
     let d = c.next_live-next.new.directory in
-    omega (arith, c.loop-next.invariant.1, c.loop-next.invariant.3, few_keys (g.D.Directory.meaning d) (g.met.D.Directory.limited d) c.args.container, c.len.ensures, length_key_bytes c.in-Some.key, c.in-Some.key.high)
+    omega (arith, c.loop-next.invariant.1, c.loop-next.invariant.3, few_keys (g.D.Directory.meaning d) (g.met.D.Directory.limited d) c.args.container, c.len.ensures, valid_key_high _ c.in-Some.key.valid)
 
 pub loop-next-preserved : goal.loop-next-preserved
 loop-next-preserved g c =
@@ -29,7 +29,7 @@ loop-next-preserved g c =
       c.next_live-next-in-Some.ensures.same ∙ c.loop-next.invariant.0,
       omega (arith, c.loop-next.invariant.1, ap length step),
       omega (arith, c.loop-next.invariant.2, length_listing_more _ _ _ step, c.len.ensures),
-      omega (arith, c.loop-next.invariant.3, c.len.ensures, length_key_bytes c.in-Some.key, c.in-Some.key.high),
+      omega (arith, c.loop-next.invariant.3, c.len.ensures, valid_key_high _ c.in-Some.key.valid),
     )
 
 pub returns : goal.returns

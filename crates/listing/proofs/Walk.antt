@@ -11,7 +11,7 @@ use Rattle.bytemap.proofs.Next.{next_is_found}
 use Rattle.bytemap.proofs.Walk.{beyond_all, beyond_fewer, beyond_none, next_all_above}
 use Rattle.naming.specs.declared.key.Key.{Key}
 use Rattle.naming.specs.Text.{valid_key}
-use Rattle.naming.proofs.Keys.{valid_key_low, valid_key_high}
+use Rattle.naming.proofs.Keys.{valid_key_low}
 use Rattle.entry.specs.Entries.{EntryValue, LiveValue}
 use Rattle.directory.specs.Meaning.{DirectoryMeaning, WithinLimits, address, contents, with_key}
 use Rattle.directory.specs.Calls.{entry_of, key_after, place_with}
@@ -24,10 +24,6 @@ use Rattle.listing.specs.Sizes.{measured}
 use Rattle.listing.specs.Walk.{key_given, bytes_of, inside, left, SameDirectory, Steps}
 
 -- ---- one key after another
-
-pub none_left : (m : Map EntryValue) (a : List ℕ) → next_key m a ≡ None → live_keys (beyond a m) ≡ []
-unfolding live_keys
-none_left m a e = ap live_keys (beyond_none a m e)
 
 -- the next key, where it is live, and the live ones beyond it
 pub next_left : (m : Map EntryValue) (a k : List ℕ) → Ascending m → next_key m a ≡ Some k → live_keys (beyond a m) ≡ key_if_live (live_of (find m k)) k (live_keys (beyond k m))
@@ -97,10 +93,6 @@ key_read (Some k) valid len place place' l w r h = made r h where
   made None h = absurd (both_ways (valid_key k) (subst (λ y. valid_key y ≡ false) same h) valid)
   made (Some x) h = ap Some (h.1 ∙ same)
 
-pub key_fits : (o : Option (List ℕ)) → IfSome o (λ k. valid_key k ≡ true) → (len : ℕ) → Some len ≡ option_map length o → len ≤ 32
-key_fits None valid len l = absurd (grind arith)
-key_fits (Some k) valid len l = let size : len ≡ length k = cc in omega (arith, valid_key_high k valid)
-
 -- ---- steps of the walk
 
 -- a key that is live, and one that is deleted
@@ -119,13 +111,12 @@ module _ {D : Type 0} (means : D → DirectoryMeaning) where
   inside_same : {s t : LiveKeys D} → SameDirectory means s t → inside means t ≡ inside means s
   inside_same p = rw (p.container, p.meaning) refl
 
-  left_same : {s t : LiveKeys D} → SameDirectory means s t → t.last ≡ s.last → left means t ≡ left means s
-  left_same p e = rw (e, inside_same p) refl
-
   pub ends : {s t : LiveKeys D} → SameDirectory means s t → t.last ≡ s.last → None ≡ next_key (inside means s) (bytes_of s.last) → (left means s ≡ []) × (left means t ≡ [])
-  ends {s} p e none =
-      let l = none_left (inside means s) (bytes_of s.last) (sym none) in
-      (l, left_same p e ∙ l)
+  unfolding live_keys
+  ends {s} {t} p e none =
+      let l : left means s ≡ [] = ap live_keys (beyond_none (bytes_of s.last) (inside means s) (sym none)) in
+      let same : left means t ≡ left means s = rw (e, inside_same p) refl in
+      (l, same ∙ l)
 
   -- at s the directory gave the key k, with which the walk went on to t
   module _ (limits : (d : D) → WithinLimits (means d)) {s n t : LiveKeys D} {k : Key} (p : SameDirectory means s n) (q : SameDirectory means (record n { last = Some k }) t) (at : t.last ≡ Some k)

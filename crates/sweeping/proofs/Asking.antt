@@ -10,7 +10,7 @@ use Rattle.cloud.specs.Outcomes.{Done, NextLength, NextOutcome}
 use Rattle.byte_strings.specs.Order.{below}
 use Rattle.row.specs.Rows.{Called, numbered}
 use Rattle.protocol.specs.Slots.{SweepingValue}
-use Rattle.protocol.specs.Sweeping.{most_names, sweep_bound, Gives, Going, Swept, pass, drop, no_more, not_above, too_many}
+use Rattle.protocol.specs.Sweeping.{most_names, sweep_bound, Gives, Going, Swept, pass, drop, drop_refused, no_more, not_above, too_many}
 use Rattle.sweeping.specs.Answers.{said, Given, Asked}
 
 -- no cloud of a row answers a length above that of the place, and where there is no cloud there is no length
@@ -19,15 +19,15 @@ pub length_fits : {ms ms' : List CloudMeaning} {i : ℕ} {above place : List ℕ
 length_fits {ms} {ms'} {i} c =
     ⊎_elim (λ (h : i < length ms). (c.here h).within) (λ (h : length ms ≤ i). rw (c.unknown h).0 tt) (cases_lt i (length ms))
 
-module _ {X : Type 0} (nexts : X → List ℕ → List ℕ → NextLength → List ℕ → X → Type 0) {a b : X} {above place place' : List ℕ} {o : Option ℕ} {len : ℕ} where
-  pub name_read : nexts a above place (Ok o) place' b → IfOk {E = Cause} (Ok o) (λ o. IfSome o (λ n. n ≤ longest_name)) → o ≡ Some len → (last : List ℕ) → above ≡ last → (bytes : List ℕ) → bytes ≡ take len place'
-      → (r : Option Name) → MatchOption r (longest_name < length bytes) (λ n. (length bytes ≤ longest_name) × (n ≡ bytes)) → Asked nexts a last (Ok r) b
-  name_read asked fits is last from bytes e None long =
+module _ {X : Type 0} (nexts : X → List ℕ → List ℕ → NextLength → List ℕ → X → Type 0) {a b : X} {above place place' last : List ℕ} {o : Option ℕ} {len : ℕ} where
+  pub name_read : nexts a above place (Ok o) place' b → IfOk {E = Cause} (Ok o) (λ o. IfSome o (λ n. n ≤ longest_name)) → o ≡ Some len → above ≡ last
+      → (r : Option Name) → MatchOption r (longest_name < length (take len place')) (λ n. (length (take len place') ≤ longest_name) × (n ≡ take len place')) → Asked nexts a last (Ok r) b
+  name_read asked fits is from None long =
       let f : len ≤ longest_name = rw is at fits in
-      let l : length bytes ≤ len = rw (e, length-take) (omega arith) in
+      let l : length (take len place') ≤ len = rw length-take (omega arith) in
       absurd (omega arith)
-  name_read asked fits is last from bytes e (Some n) h =
-      record { len = len; exchange = record { place = place; place' = place'; asked = rw (from, is) at asked }; name = h.1 ∙ e }
+  name_read asked fits is from (Some n) h =
+      record { len = len; exchange = record { place = place; place' = place'; asked = rw (from, is) at asked }; name = h.1 }
 
 one_more : (n : ℕ) → suc n ≡ n + 1
 one_more n = omega arith
@@ -56,9 +56,17 @@ module _ {X : Type 0} (nexts : X → List ℕ → List ℕ → NextLength → Li
       pub passes : {n : List ℕ} → Gives nexts drops x b last seen n c → below n (sweep_bound x) ≡ true → (IsNameOf n x.container x.key → ⊥) → Going nexts drops x a c n (seen + 1) dropped
       passes {n} g up other = subst (λ (k : ℕ). Going nexts drops x a c n k dropped) (one_more seen) (pass going g up other)
 
-      pub goes : {d : X} {n : List ℕ} → Gives nexts drops x b last seen n c → below n (sweep_bound x) ≡ true → IsNameOf n x.container x.key → drops c n (Ok tt) d → Going nexts drops x a d n (seen + 1) (dropped + 1)
-      goes {d} {n} g up named done =
-          subst (λ (k : ℕ). Going nexts drops x a d n (seen + 1) k) (one_more dropped) (subst (λ (k : ℕ). Going nexts drops x a d n k (suc dropped)) (one_more seen) (drop going g up named done))
+      module _ {d : X} {n bytes : List ℕ} (g : Gives nexts drops x b last seen n c) (low : below n (sweep_bound x) ≡ true) (is : IsNameOf n x.container x.key) (lent : bytes ≡ n) where
+        pub goes : drops c bytes (Ok tt) d → Going nexts drops x a d n (seen + 1) (dropped + 1)
+        goes done =
+            subst (λ (k : ℕ). Going nexts drops x a d n (seen + 1) k) (one_more dropped) (subst (λ (k : ℕ). Going nexts drops x a d n k (suc dropped)) (one_more seen) (drop going g low is (rw lent at done)))
+
+        pub refused : {e : Cause} → drops c bytes (Err e) d → Swept nexts drops x a d (Err e)
+        refused done = drop_refused going g low is (rw lent at done)
+
+-- a name, where it is lent as bytes
+pub named : {n m : List ℕ} (c : ℕ) (k : List ℕ) → n ≡ m → IsNameOf n c k → IsNameOf m c k
+named c k same is = subst (λ (n : List ℕ). IsNameOf n c k) same is
 
 -- ---- the cloud's number at the answer, and off it
 

@@ -1,5 +1,5 @@
 -- A name that Next gave, out of its place.
-use Rattle.std.proofs.Common.{◌≡◌, ℕ, suc, ◌+◌, ◌<◌, ◌≤◌, true, false, List, length, take, IfSome, IfOk, Some, None, Ok, Err, Option, Result, refl, ◌∙◌, subst, ⊎_elim, arith, length-take, MatchOption}
+use Rattle.std.proofs.Common.{◌≡◌, ℕ, suc, ◌+◌, ◌<◌, ◌≤◌, Bool, true, false, List, length, take, IfSome, IfOk, Some, None, Ok, Err, Option, Result, sym, refl, ap, ◌∙◌, subst, ⊎_elim, arith, length-take, MatchOption}
 use Rattle.std.proofs.lemmas.Bool.{cases_lt}
 use Rattle.refusal.specs.declared.Cause.{Cause}
 use Rattle.refusal.specs.declared.Cause.TheVariants.{Silent, BadListing}
@@ -10,7 +10,7 @@ use Rattle.cloud.specs.Outcomes.{Done, NextLength, NextOutcome}
 use Rattle.byte_strings.specs.Order.{below}
 use Rattle.row.specs.Rows.{Called, numbered}
 use Rattle.protocol.specs.Slots.{SweepingValue}
-use Rattle.protocol.specs.Sweeping.{most_names, sweep_bound, Gives, Going, Swept, pass, drop, drop_refused, no_more, not_above, too_many}
+use Rattle.protocol.specs.Sweeping.{most_names, sweep_bound, Gives, Going, Swept, pass, drop, drop_refused, no_more, reached, not_above, too_many}
 use Rattle.sweeping.specs.Answers.{said, Given, Asked}
 
 -- no cloud of a row answers a length above that of the place, and where there is no cloud there is no length
@@ -34,39 +34,41 @@ one_more n = omega arith
 
 -- ---- the answer as a link of the chain
 
-module _ {X : Type 0} (nexts : X → List ℕ → List ℕ → NextLength → List ℕ → X → Type 0) {b c : X} {last : List ℕ} where
-  pub given : {o : Option Name} {n : Name} → Asked nexts b last (Ok o) c → o ≡ Some n → Given nexts b last (n) c
-  given asked is = subst (λ (o : Option Name). Asked nexts b last (Ok o) c) is asked
+by_bound : (n : List ℕ) {bound bound' : List ℕ} {v : Bool} → bound ≡ bound' → v ≡ below n bound → below n bound' ≡ v
+by_bound n bounded e = ap (below n) (sym bounded) ∙ sym e
 
-  module _ (drops : X → List ℕ → Done → X → Type 0) (x : SweepingValue) {seen : ℕ} where
-    pub gives : {n : List ℕ} → Given nexts b last n c → below last n ≡ true → seen < most_names → Gives nexts drops x b last seen n c
-    gives g up few =
-        record { place = g.exchange.place; place' = g.exchange.place'; len = g.len; asked = g.exchange.asked; name = g.name; ascends = up; few = few }
+module _ {X : Type 0} (nexts : X → List ℕ → List ℕ → NextLength → List ℕ → X → Type 0) (drops : X → List ℕ → Done → X → Type 0) (x : SweepingValue) {a b c : X} {last : List ℕ} {seen dropped : ℕ} (going : Going nexts drops x a b last seen dropped) {o : Option Name} (asked : Asked nexts b last (Ok o) c) where
+  pub ends : o ≡ None → Swept nexts drops x a c (Ok dropped)
+  ends is = no_more going (subst (λ (o : Option Name). Asked nexts b last (Ok o) c) is asked).asked
 
-    module _ {a : X} {dropped : ℕ} (going : Going nexts drops x a b last seen dropped) where
-      pub ends : {o : Option Name} → Asked nexts b last (Ok o) c → o ≡ None → Swept nexts drops x a c (Ok dropped)
-      ends asked is = no_more going (subst (λ (o : Option Name). Asked nexts b last (Ok o) c) is asked).asked
+  module _ {n : Name} (is : o ≡ Some n) where
+    given : Given nexts b last n c
+    given = subst (λ (o : Option Name). Asked nexts b last (Ok o) c) is asked
 
-      pub falls : {n : List ℕ} → Given nexts b last n c → below last n ≡ false → Swept nexts drops x a c (Err BadListing)
-      falls g down = not_above going g.exchange.asked (subst (λ (n : List ℕ). below last n ≡ false) g.name down)
+    pub falls : false ≡ below last n → Swept nexts drops x a c (Err BadListing)
+    falls down = not_above going given.exchange.asked (rw given.name at (sym down))
 
-      pub exceeds : {n : List ℕ} → Given nexts b last n c → most_names ≤ seen → Swept nexts drops x a c (Err BadListing)
-      exceeds g many = too_many going g.exchange.asked many
+    pub exceeds : most_names ≤ seen → Swept nexts drops x a c (Err BadListing)
+    exceeds many = too_many going given.exchange.asked many
 
-      pub passes : {n : List ℕ} → Gives nexts drops x b last seen n c → below n (sweep_bound x) ≡ true → (IsNameOf n x.container x.key → ⊥) → Going nexts drops x a c n (seen + 1) dropped
-      passes {n} g up other = subst (λ (k : ℕ). Going nexts drops x a c n k dropped) (one_more seen) (pass going g up other)
+    module _ (up : true ≡ below last n) (few : seen < most_names) {bound : List ℕ} (bounded : bound ≡ sweep_bound x) where
+      gives : Gives nexts drops x b last seen n c
+      gives = let g = given in record { place = g.exchange.place; place' = g.exchange.place'; len = g.len; asked = g.exchange.asked; name = g.name; ascends = sym up; few = few }
 
-      module _ {d : X} {n bytes : List ℕ} (g : Gives nexts drops x b last seen n c) (low : below n (sweep_bound x) ≡ true) (is : IsNameOf n x.container x.key) (lent : bytes ≡ n) where
-        pub goes : drops c bytes (Ok tt) d → Going nexts drops x a d n (seen + 1) (dropped + 1)
-        goes done =
-            subst (λ (k : ℕ). Going nexts drops x a d n (seen + 1) k) (one_more dropped) (subst (λ (k : ℕ). Going nexts drops x a d n k (suc dropped)) (one_more seen) (drop going g low is (rw lent at done)))
+      pub reaches : false ≡ below n bound → Swept nexts drops x a c (Ok dropped)
+      reaches past = reached going gives (by_bound n bounded past)
 
-        pub refused : {e : Cause} → drops c bytes (Err e) d → Swept nexts drops x a d (Err e)
-        refused done = drop_refused going g low is (rw lent at done)
+      module _ (low : true ≡ below n bound) {bytes : List ℕ} (lent : bytes ≡ n) where
+        pub passes : (IsNameOf bytes x.container x.key → ⊥) → Going nexts drops x a c n (seen + 1) dropped
+        passes other = subst (λ (k : ℕ). Going nexts drops x a c n k dropped) (one_more seen) (pass going gives (by_bound n bounded low) (rw lent at other))
 
--- a name, where it is lent as bytes
-pub named : {n m : List ℕ} (c : ℕ) (k : List ℕ) → n ≡ m → IsNameOf n c k → IsNameOf m c k
-named c k same is = subst (λ (n : List ℕ). IsNameOf n c k) same is
+        module _ (named : IsNameOf bytes x.container x.key) {bytes' : List ℕ} (lent' : bytes' ≡ n) {d : X} where
+          pub goes : drops c bytes' (Ok tt) d → Going nexts drops x a d n (seen + 1) (dropped + 1)
+          goes done =
+              subst (λ (k : ℕ). Going nexts drops x a d n (seen + 1) k) (one_more dropped) (subst (λ (k : ℕ). Going nexts drops x a d n k (suc dropped)) (one_more seen) (drop going gives (by_bound n bounded low) (rw lent at named) (rw lent' at done)))
+
+          pub refused : {e : Cause} → drops c bytes' (Err e) d → Swept nexts drops x a d (Err e)
+          refused done = drop_refused going gives (by_bound n bounded low) (rw lent at named) (rw lent' at done)
 
 -- ---- the cloud's number at the answer, and off it
 

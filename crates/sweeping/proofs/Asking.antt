@@ -2,6 +2,7 @@
 use Rattle.std.proofs.Common.{◌≡◌, ℕ, suc, ◌+◌, ◌<◌, ◌≤◌, Bool, true, false, List, length, take, IfSome, IfOk, Some, None, Ok, Err, Option, Result, sym, refl, ap, ◌∙◌, subst, ⊎_elim, arith, length-take, MatchOption}
 use Rattle.std.proofs.lemmas.Bool.{cases_lt}
 use Rattle.refusal.specs.declared.Cause.{Cause}
+use Rattle.refusal.specs.declared.CloudFault.{CloudFault}
 use Rattle.refusal.specs.declared.Cause.TheVariants.{Silent, BadListing}
 use Rattle.naming.specs.declared.name.Name.{Name}
 use Rattle.naming.specs.Names.{IsNameOf}
@@ -72,6 +73,9 @@ module _ {X : Type 0} (nexts : X → List ℕ → List ℕ → NextLength → Li
 
 -- ---- the cloud's number at the answer, and off it
 
-pub said_numbered : {T : Type 0} (i : ℕ) (r : Result T Cause) → said (numbered i r) ≡ r
+said_numbered : {T : Type 0} (i : ℕ) (r : Result T Cause) → said (numbered i r) ≡ r
 said_numbered i (Ok t) = refl
 said_numbered i (Err e) = refl
+
+pub said_at : {T : Type 0} (i : ℕ) (s : Result T Cause) (r : Result T CloudFault) → r ≡ numbered i s → said r ≡ s
+said_at i s r e = ap said e ∙ said_numbered i s

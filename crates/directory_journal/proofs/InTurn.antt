@@ -1,15 +1,13 @@
 -- Entries of different keys are accepted in turn, and make the directory that they stand for.
-use Rattle.std.proofs.Common.{◌≡◌, ℕ, ◌-◌, ◌≤◌, true, false, eqb, List, [], ◌∷◌, length, Some, None, Option, sym, refl, ap, ◌∙◌, subst, ⊎_elim, arith}
+use Rattle.std.proofs.Common.{◌≡◌, ℕ, ◌-◌, ◌≤◌, true, false, eqb, List, [], ◌∷◌, length, Some, None, Ok, Option, sym, refl, ap, ◌∙◌, subst, ⊎_elim, arith}
 use Rattle.std.specs.Str.{bytes_eq}
 use Rattle.std.proofs.lemmas.Bool.{cases_Bool, ne_eqb}
 use Rattle.std.proofs.lemmas.Bool.Decides.{nat_tests}
 use Rattle.bytemap.specs.Map.{find, insert, gathered, Ascending, Distinct}
 use Rattle.bytemap.proofs.Find.{same_self, same_is, find_cons, find_empty, find_insert, find_gathered, ascending_insert, ascending_gathered, same_map}
 use Rattle.naming.specs.Stamps.{StampValue, no_stamp, stamp_below}
-use Rattle.naming.proofs.Keys.{key_is_valid}
 use Rattle.entry.specs.Entries.{EntryValue, stamp_taken}
 use Rattle.entry.proofs.Valid.{entry_is_valid}
-use Rattle.directory.specs.declared.interface.CommitAnswer.TheVariants.{Committed}
 use Rattle.directory.specs.Meaning.{DirectoryMeaning}
 use Rattle.directory.specs.Calls.{commit_answer, commit_after}
 use Rattle.directory_table.specs.declared.keyed_entry.KeyedEntry.{KeyedEntry}
@@ -19,7 +17,7 @@ use Rattle.directory_journal.specs.Replay.{empty_directory, accepts, after_recor
 use Rattle.directory_journal.specs.Records.{record_of, records_of, AllAccepted, after_records}
 
 pub record_is_valid : (x : KeyedEntry) → ValidRecord (record_of x)
-record_is_valid x = record { container_fits = x.byte; key_valid = key_is_valid x.at.key; entry_valid = entry_is_valid x.entry }
+record_is_valid x = record { container_fits = x.byte; key_valid = x.at.key.valid; entry_valid = entry_is_valid x.entry }
 
 -- a write's stamp is above that of a key without an entry
 above_none : (s : StampValue) → stamp_taken s ≡ true → stamp_below no_stamp s ≡ true
@@ -29,7 +27,7 @@ above_none s h = grind (arith, nat_tests)
 -- ---- one entry, of a key that is new
 
 module _ (m : DirectoryMeaning) (x : KeyedEntry) (fresh : find m.entries (key_address x) ≡ None) (room : 1 ≤ m.free) where
-  answer : commit_answer m (record_of x).container (record_of x).key (record_of x).entry ≡ Committed
+  answer : commit_answer m (record_of x).container (record_of x).key (record_of x).entry ≡ Ok tt
   unfolding commit_answer
   answer =
       let s = above_none (value_of x).stamp (entry_is_valid x.entry).stamped in

@@ -4,18 +4,14 @@ use Rattle.std.specs.Option.{option_map}
 use Rattle.std.proofs.lemmas.List.{drop_at, drop-drop}
 use Rattle.std.proofs.lemmas.Slice.{between_to_end}
 use Rattle.std.proofs.lemmas.Bool.{both_ways, ne_eqb}
-use Rattle.entry.specs.Entries.{EntryValue}
-use Rattle.directory.specs.declared.interface.CommitAnswer.{CommitAnswer}
-use Rattle.directory.specs.declared.interface.CommitAnswer.TheVariants.{Committed}
 use Rattle.directory.specs.Meaning.{DirectoryMeaning}
-use Rattle.directory.specs.Calls.{commit_answer, commit_after}
 use Rattle.journal_record.specs.Records.{RecordValue, ValidRecord}
 use Rattle.journal_record.specs.Layout.{encode}
-use Rattle.journal_record.specs.Parse.{Read, parse, first_record}
+use Rattle.journal_record.specs.Parse.{Read, parse}
 use Rattle.journal_record.proofs.ReadBack.{records_read_back}
 use Rattle.journal_record.proofs.OnlyRecords.{guard_passed}
 use Rattle.journal_record.proofs.Lengths.{first_byte, rest_shorter}
-use Rattle.directory_journal.specs.Replay.{is_committed, accepts, after_record, ended, accepted, take_record, replay_from}
+use Rattle.directory_journal.specs.Replay.{accepts, after_record, ended, accepted, take_record, replay_from}
 
 -- past the bytes of a record
 skip : (m : DirectoryMeaning) (at n : ℕ) (xs : List ℕ) → n ≤ length xs → replay_from m at n xs ≡ replay_from m (at + n) 0 (drop n xs)
@@ -83,21 +79,6 @@ module _ (m : DirectoryMeaning) (xs : List ℕ) (after : DirectoryMeaning) (n : 
     -- a record more
     pub at_record : (at : ℕ) → ended xs ≡ false → replay_from m at 0 xs ≡ replay_from after (at + n) 0 (drop n xs)
     at_record at h = step m at xs h after n some taken_some taken_within
-
--- ---- a record that was read and committed
-
-module _ (m : DirectoryMeaning) (xs : List ℕ) (r : RecordValue) (n : ℕ) (read : Some (r, n) ≡ first_record xs)
-    (c : ℕ) (k : List ℕ) (e : EntryValue) (c_is : c ≡ r.container) (k_is : k ≡ r.key) (e_is : e ≡ r.entry) (a : CommitAnswer) (answer : a ≡ commit_answer m c k e) where
-  answered : commit_answer m r.container r.key r.entry ≡ a
-  answered = sym (answer ∙ (λ i. commit_answer m (c_is i) (k_is i) (e_is i)))
-
-  pub read_good : a ≡ Committed → (after : DirectoryMeaning) → after ≡ commit_after m c k e → take_record m xs ≡ Some (after, n)
-  read_good done after is =
-      let s : after ≡ after_record m r = is ∙ (λ i. commit_after m (c_is i) (k_is i) (e_is i)) in
-      rw (← read, answered, done, s)
-
-  pub read_bad : is_committed a ≡ false → take_record m xs ≡ None
-  read_bad h = rw (← read, answered, h)
 
 -- ---- a record that is there
 

@@ -1,5 +1,5 @@
 -- One entry more is written from the start.
-use Rattle.std.proofs.Common.{◌≡◌, ℕ, suc, ◌+◌, ◌*◌, ◌<◌, ◌≤◌, List, [], ◌∷◌, ◌++◌, length, get_or, take, Some, None, sym, refl, ap, ◌∙◌, subst, append_assoc, append-nil, arith, take-suc}
+use Rattle.std.proofs.Common.{◌≡◌, ℕ, suc, ◌+◌, ◌*◌, ◌<◌, ◌≤◌, List, [], ◌∷◌, ◌++◌, length, get_or, take, unwrap_or, Some, None, Option, sym, refl, ap, ◌∙◌, subst, append_assoc, append-nil, arith, take-suc}
 use Rattle.std.proofs.lemmas.List.{map_push}
 use Rattle.directory_table.specs.declared.keyed_entry.KeyedEntry.{KeyedEntry}
 use Rattle.journal_record.specs.Records.{RecordValue}
@@ -32,10 +32,9 @@ module _ (entries : List KeyedEntry) (i : ℕ) (item : KeyedEntry) (here : item 
       ∙ all_encoded_push (records_of (take i entries)) (record_of item)
       ∙ ap (λ q. all_encoded (records_of (take i entries)) ++ encode q) (sym is)
 
-  pub entry_written : (next : ℕ) (bytes' : List ℕ) → Appended bytes end r (Some next) bytes'
-      → (take next bytes' ≡ all_encoded (records_of (take (i + 1) entries))) × (next ≤ (i + 1) * longest_record)
-  entry_written next bytes' a =
-      (a.2 ∙ ap (λ xs. xs ++ encode r) so_far ∙ sym one_more, omega (arith, short, low, a.0))
-
-  pub entry_fits : (bytes' : List ℕ) → Appended bytes end r None bytes' → ⊥
-  entry_fits bytes' a = omega (arith, short, low, room, a.0)
+  -- It is written: there is room for it.
+  pub entry_appended : (end' : Option ℕ) (bytes' : List ℕ) → Appended bytes end r end' bytes'
+      → (take (unwrap_or end' end) bytes' ≡ all_encoded (records_of (take (i + 1) entries))) × (unwrap_or end' end ≤ (i + 1) * longest_record) × (length bytes' ≡ length bytes)
+  entry_appended None bytes' a = absurd (omega (arith, short, low, room, a.0))
+  entry_appended (Some next) bytes' a =
+      (a.2 ∙ ap (λ xs. xs ++ encode r) so_far ∙ sym one_more, omega (arith, short, low, a.0), a.3)

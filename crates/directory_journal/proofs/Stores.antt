@@ -1,16 +1,15 @@
 -- What the bytes replay to after a record was stored.
-use Rattle.std.proofs.Common.{◌≡◌, ℕ, ◌+◌, ◌≤◌, true, false, leb, List, ◌++◌, length, take, drop, Ok, sym, refl, ap, ◌∙◌, ⊎_elim, append_assoc, arith, length-append}
+use Rattle.std.proofs.Common.{◌≡◌, ℕ, ◌+◌, ◌≤◌, true, false, leb, List, ◌++◌, length, take, drop, Ok, Err, sym, ap, ◌∙◌, ⊎_elim, append_assoc, arith, length-append}
 use Rattle.std.proofs.lemmas.List.{take-append-drop, length-take-le}
 use Rattle.std.proofs.lemmas.Bool.{cases_Bool}
 use Rattle.entry.specs.Entries.{EntryValue}
-use Rattle.directory.specs.declared.interface.CommitAnswer.{CommitAnswer}
-use Rattle.directory.specs.declared.interface.CommitAnswer.TheVariants.{Committed, Older, Full}
+use Rattle.directory.specs.declared.interface.CommitError.{CommitError}
 use Rattle.directory.specs.Meaning.{DirectoryMeaning}
-use Rattle.directory.specs.Calls.{commit_answer, commit_after, when_committed}
+use Rattle.directory.specs.Calls.{commit_answer, commit_after}
 use Rattle.directory_table.specs.declared.table.Table.{Table}
 use Rattle.directory_table.specs.Entries.{pairs}
 use Rattle.directory_table.specs.Making.{table_entries, table_meaning}
-use Rattle.directory_table.specs.DifferentLemmas.{distinct_from}
+use Rattle.bytemap.proofs.Pairs.{distinct_from}
 use Rattle.journal_record.specs.Records.{RecordValue, ValidRecord}
 use Rattle.journal_record.specs.Layout.{encode}
 use Rattle.directory_journal.specs.Capacity.{capacity}
@@ -68,11 +67,6 @@ module _ (places : ℕ) (bytes : List ℕ) (m : DirectoryMeaning) (used : ℕ) (
   stored_replays = ⊎_elim appended closed_up (cases_Bool (leb (used + length (encode r)) (length bytes)))
 
 -- a commit that is refused leaves the directory
-pub refused_leaves : (m : DirectoryMeaning) (c : ℕ) (k : List ℕ) (e : EntryValue) (a : CommitAnswer) → a ≡ commit_answer m c k e → (a ≡ Committed → ⊥) → commit_after m c k e ≡ m
+pub refused_leaves : (m : DirectoryMeaning) (c : ℕ) (k : List ℕ) (e : EntryValue) (why : CommitError) → Err why ≡ commit_answer m c k e → commit_after m c k e ≡ m
 unfolding commit_after
-refused_leaves m c k e a is not = rw (← is) (by a not)
-  where
-    by : (b : CommitAnswer) → (b ≡ Committed → ⊥) → when_committed b m c k e ≡ m
-    by Committed n = absurd (n refl)
-    by Older n = refl
-    by Full n = refl
+refused_leaves m c k e why is = rw (← is)

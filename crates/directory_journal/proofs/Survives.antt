@@ -1,12 +1,10 @@
 -- The bytes of a journal, opened again, mean what the journal means.
-use Rattle.std.proofs.Common.{◌≡◌, ℕ, ◌+◌, ◌*◌, ◌≤◌, List, [], ◌∷◌, length, Ok, sym, refl, ap, ◌∙◌, arith}
+use Rattle.std.proofs.Common.{◌≡◌, ℕ, ◌+◌, ◌*◌, ◌≤◌, List, [], ◌∷◌, length, Ok, Err, sym, refl, ap, ◌∙◌, arith}
 use Rattle.bytemap.specs.Map.{Ascending}
 use Rattle.bytemap.proofs.Find.{ascending_insert, ascending_gathered}
 use Rattle.entry.specs.Entries.{EntryValue}
-use Rattle.directory.specs.declared.interface.CommitAnswer.{CommitAnswer}
-use Rattle.directory.specs.declared.interface.CommitAnswer.TheVariants.{Committed, Older, Full}
 use Rattle.directory.specs.Meaning.{DirectoryMeaning, address}
-use Rattle.directory.specs.Calls.{commit_answer, commit_after, when_committed}
+use Rattle.directory.specs.Calls.{Answer, commit_answer, commit_after, when_committed}
 use Rattle.directory_table.specs.Entries.{pairs}
 use Rattle.directory_table.specs.Making.{table_entries}
 use Rattle.journal_record.specs.Layout.{longest_record}
@@ -34,10 +32,9 @@ ascending_kept : (m : DirectoryMeaning) (c : ℕ) (k : List ℕ) (e : EntryValue
 unfolding commit_after
 ascending_kept m c k e asc = by (commit_answer m c k e)
   where
-    by : (a : CommitAnswer) → Ascending (when_committed a m c k e).entries
-    by Committed = ascending_insert m.entries (address c k) e asc
-    by Older = asc
-    by Full = asc
+    by : (a : Answer) → Ascending (when_committed a m c k e).entries
+    by (Ok t) = ascending_insert m.entries (address c k) e asc
+    by (Err why) = asc
 
 places_kept : (m : DirectoryMeaning) (rs : List RecordValue) → Ascending m.entries → capacity (after_records m rs) ≡ capacity m
 places_kept m [] asc = refl

@@ -1,8 +1,6 @@
 -- What the bytes of a journal say: records from the start until a 0 byte or the end, each of which a directory with so
 -- many places would commit. So the stamps of one key rise, and there are no more keys than places.
-use Rattle.std.specs.Prelude.{ℕ, zero, suc, ◌-◌, Bool, true, false, cond, List, [], ◌∷◌, Some, None, Ok, Err, Option, Result, ◌==◌}
-use Rattle.directory.specs.declared.interface.CommitAnswer.{CommitAnswer}
-use Rattle.directory.specs.declared.interface.CommitAnswer.TheVariants.{Committed, Older, Full}
+use Rattle.std.specs.Prelude.{ℕ, zero, suc, ◌-◌, Bool, true, cond, is_ok, List, [], ◌∷◌, Some, None, Ok, Err, Option, Result, ◌==◌}
 use Rattle.directory.specs.Meaning.{DirectoryMeaning}
 use Rattle.directory.specs.Calls.{commit_answer, commit_after}
 use Rattle.journal_record.specs.Records.{RecordValue}
@@ -12,14 +10,9 @@ use Rattle.journal_record.specs.Parse.{guard, first_record}
 abbrev pub empty_directory : ℕ → DirectoryMeaning
 empty_directory places = record { entries = []; free = places }
 
-abbrev pub is_committed : CommitAnswer → Bool
-is_committed Committed = true
-is_committed Older = false
-is_committed Full = false
-
 -- The record's stamp is above that of the key's last record, and a new key has a place.
 abbrev pub accepts : DirectoryMeaning → RecordValue → Bool
-accepts m r = is_committed (commit_answer m r.container r.key r.entry)
+accepts m r = is_ok (commit_answer m r.container r.key r.entry)
 
 abbrev pub after_record : DirectoryMeaning → RecordValue → DirectoryMeaning
 after_record m r = commit_after m r.container r.key r.entry

@@ -14,6 +14,8 @@ mod opening;
 
 /// A journal: records in its first `used` bytes, and then a 0 byte or the end. The index has the entry of each key's
 /// last record, so that no look reads the bytes.
+// The bytes are no Vec that grows: all of the memory that was handed in counts, and no call allocates.
+// No `impl Model`: what is proved of journals reads off one what its bytes say.
 #[derive(Drop)]
 pub struct Journal {
     bytes: Vec<u8>,

@@ -17,6 +17,7 @@ pub(crate) fn store(bytes: &mut [u8], used: usize, added: &Record, entries: &[Ke
     requires room { length entries.now * longest_record ≤ length bytes.old }
     ensures { Stored bytes.old used (record_value added.now) (records_of entries.now) result bytes.new }
 {
+    // No `unwrap_or_else`: a proof knows nothing of bytes that a closure has written.
     let end = match append(bytes, used, added) {
         Some(end) => end,
         None => rewrite(bytes, entries),
@@ -43,9 +44,7 @@ fn rewrite(bytes: &mut [u8], entries: &[KeyedEntry]) -> usize
 {
     let mut end = 0;
     for item in entries {
-        if let Some(next) = append(bytes, end, &to_record(item)) {
-            end = next;
-        }
+        end = append(bytes, end, &to_record(item)).unwrap_or(end);
     }
     end
 }
@@ -53,7 +52,7 @@ fn rewrite(bytes: &mut [u8], entries: &[KeyedEntry]) -> usize
 fn to_record(item: &KeyedEntry) -> Record
     ensures { record_value result ≡ record_of item.now }
 {
-    Record::new(item.container(), item.key(), item.entry())
+    Record::new(item.at(), item.entry())
 }
 
 // Where there is a byte behind the records, it becomes 0.

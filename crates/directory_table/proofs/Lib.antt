@@ -1,3 +1,3 @@
-pub mod Searched
+pub mod NextKey
 pub mod Outcomes
 pub mod Effects

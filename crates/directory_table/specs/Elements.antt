@@ -4,11 +4,9 @@ use Rattle.std.proofs.Common.{sym, ◌∙◌, ap, subst, ⊎_elim, arith}
 use Rattle.std.specs.Str.{bytes_eq}
 use Rattle.std.proofs.lemmas.List.{length-map, get_or-map, map-set, map_push}
 use Rattle.std.proofs.lemmas.Bool.{cases_Bool}
-use Rattle.bytemap.specs.Map.{find, insert, gathered, Distinct}
+use Rattle.bytemap.specs.Map.{find, insert, gathered, Distinct, all_different}
 use Rattle.bytemap.proofs.Find.{apart, same_is, find_empty, find_cons}
-use Rattle.bytemap.proofs.Pairs.{find_at, find_push, distinct_push, find_set, distinct_set, gathered_insert}
-use Rattle.directory_table.specs.Different.{all_different}
-use Rattle.directory_table.specs.DifferentLemmas.{distinct_from, different_from}
+use Rattle.bytemap.proofs.Pairs.{find_at, find_push, distinct_push, find_set, distinct_set, gathered_insert, distinct_from, different_from}
 
 module _ {X V : Type 0} (f : X → List ℕ × V) where
   -- a key that no element has is not found

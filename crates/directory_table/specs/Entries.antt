@@ -1,8 +1,8 @@
 -- What entries with their keys stand for.
 use Rattle.std.specs.Prelude.{◌≡◌, ℕ, ◌-◌, ◌<◌, List, map, length, Some, None, Option, slice_index_or}
-use Rattle.bytemap.specs.Map.{find, next_key, gathered}
+use Rattle.bytemap.specs.Map.{find, gathered}
 use Rattle.entry.specs.Entries.{EntryValue, entry_value}
-use Rattle.directory.specs.Meaning.{DirectoryMeaning, address, contents}
+use Rattle.directory.specs.Meaning.{DirectoryMeaning, address}
 use Rattle.directory_table.specs.declared.keyed_entry.KeyedEntry.{KeyedEntry}
 
 abbrev pub container_of : KeyedEntry → ℕ
@@ -31,9 +31,3 @@ meaning_of xs places = record { entries = gathered (pairs xs); free = places - l
 abbrev pub IndexOf : List KeyedEntry → ℕ → List ℕ → Option ℕ → Type 0
 IndexOf xs container key None = find (pairs xs) (address container key) ≡ None
 IndexOf xs container key (Some i) = (i < length xs) × ((d : KeyedEntry) → key_address (slice_index_or xs i d) ≡ address container key)
-
--- the answer of a search for the container's smallest key above some bytes
-abbrev pub IndexAfter : List KeyedEntry → ℕ → List ℕ → Option ℕ → Type 0
-IndexAfter xs container above None = next_key (contents container (gathered (pairs xs))) above ≡ None
-IndexAfter xs container above (Some i) =
-    (i < length xs) × ((d : KeyedEntry) → next_key (contents container (gathered (pairs xs))) above ≡ Some (key_of (slice_index_or xs i d)))

@@ -1,7 +1,5 @@
-pub mod Different
 pub mod Entries
 pub mod Answer
 pub mod Making
 pub mod Limits
-pub mod DifferentLemmas
 pub mod Elements

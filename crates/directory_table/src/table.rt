@@ -1,7 +1,7 @@
 //! The table.
 
 ghost use Rattle.std.specs.Prelude.{◌≡◌, ◌≤◌, true, vec_len, vec_capacity};
-ghost use Rattle.directory_table.specs.Different.{all_different};
+ghost use Rattle.bytemap.specs.Map.{all_different};
 ghost use Rattle.directory_table.specs.Entries.{pairs};
 
 use crate::keyed_entry::KeyedEntry;
@@ -11,6 +11,7 @@ mod making;
 mod reading;
 
 /// A directory that keeps each key in a place of its own.
+// No `impl Model`: that no key stands twice and that the places are few is read off a table by the laws of directories.
 #[derive(Drop)]
 pub struct Table {
     entries: Vec<KeyedEntry>,

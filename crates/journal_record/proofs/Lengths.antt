@@ -17,22 +17,22 @@ length_container x = by (eqb x 0)
     by true = omega arith
     by false = omega arith
 
-pub length_size : (x : ℕ) → length (size_field x) ≤ 2
+length_size : (x : ℕ) → length (size_field x) ≤ 2
 length_size x = by (eqb x 0)
   where
     by : (b : Bool) → length (cond b [] (two_bytes x)) ≤ 2
     by true = omega arith
     by false = omega arith
 
-pub width_most : (d : List ℕ) → is_digest d ≡ true → length d ≤ 32
+width_most : (d : List ℕ) → is_digest d ≡ true → length d ≤ 32
 width_most d h =
     elim (or_cases (eqb (length d) 20) (eqb (length d) 32) h) [ inl e ↦ omega (arith, eqb-true (length d) 20 e) | inr e ↦ omega (arith, eqb-true (length d) 32 e) ]
 
-pub length_digest : (d : List ℕ) → digest_fits d ≡ true → length d ≤ 32
+length_digest : (d : List ℕ) → digest_fits d ≡ true → length d ≤ 32
 unfolding digest_fits
 length_digest d h = width_most d (and_parts (is_digest d) (all_bytes d) h).0
 
-pub length_live : (o : Option LiveValue) → IfSome o (λ l. valid_live l ≡ true) → length (live_fields o) ≤ 35
+length_live : (o : Option LiveValue) → IfSome o (λ l. valid_live l ≡ true) → length (live_fields o) ≤ 35
 length_live None v = omega arith
 length_live (Some l) v =
     let d = length_digest l.digest (and_parts _ (digest_fits l.digest) v).1 in
@@ -68,21 +68,7 @@ module _ (xs : List ℕ) (r : RecordValue) (rest : List ℕ) (is : parse xs ≡ 
       let f = first_byte r in
       omega (arith, ap length o.1, length-append (encode r) rest, ap length f.3)
 
-  pub length_read : length xs - length rest ≡ length (encode r)
-  length_read =
-      let o = only_records_are_read xs r rest is in
-      omega (arith, ap length o.1, length-append (encode r) rest)
-
 -- ---- writing
 
 pub length_appended : (before part after : List ℕ) → after ≡ before ++ part → length after ≡ length before + length part
 length_appended before part after e = ap length e ∙ length-append before part
-
--- the front of a record: its map and the key's length, the key, and four bytes of sequence
-module _ (b₀ b₁ b₂ b₃ : List ℕ) (map len : ℕ) (key sequence : List ℕ) (none : b₀ ≡ []) (e₁ : b₁ ≡ b₀ ++ (map ∷ len ∷ [])) (e₂ : b₂ ≡ b₁ ++ key) (e₃ : b₃ ≡ b₂ ++ sequence) (short : length key ≤ 32) (four : length sequence ≡ 4) where
-  pub front_most : length b₃ ≤ 38
-  front_most =
-      let l₁ = length_appended b₀ (map ∷ len ∷ []) b₁ e₁ in
-      let l₂ = length_appended b₁ key b₂ e₂ in
-      let l₃ = length_appended b₂ sequence b₃ e₃ in
-      omega (arith, ap length none)

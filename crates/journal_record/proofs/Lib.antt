@@ -3,4 +3,3 @@ pub mod Valid
 pub mod ReadBack
 pub mod OnlyRecords
 pub mod Lengths
-pub mod Writing

@@ -11,7 +11,7 @@ pub record RecordValue : Type 0 where
   pub entry : EntryValue
 
 abbrev pub record_value : Record → RecordValue
-record_value r = record { container = r.container; key = r.key.bytes; entry = entry_value r.entry }
+record_value r = record { container = r.at.container; key = r.at.key.bytes; entry = entry_value r.entry }
 
 -- Container, key and entry keep their limits.
 pub record ValidRecord (r : RecordValue) : Type 0 where

@@ -4,8 +4,6 @@ ghost use Rattle.std.specs.Prelude.{◌≡◌, ◌<◌};
 ghost use Rattle.std.specs.Option.{option_map};
 ghost use Rattle.journal_record.specs.Parse.{bit, take_stamp, take_container, take_size, take_digest, take_live, take_state, take_fields, number_read, part_read, stamp_read, live_read, state_read, fields_read};
 
-use crate::front::{take_byte, take_part, take_u16, take_u32};
-
 /// What the bytes of a record hold.
 #[derive(Clone, Copy)]
 pub struct Fields<'a> {
@@ -42,7 +40,7 @@ pub(crate) fn take_fields(bytes: &[u8], map: u8, len: u8) -> Option<(Fields<'_>,
     if map >> 5 != 0b100 {
         return None;
     }
-    let (key, rest) = take_part(bytes, len as usize)?;
+    let (key, rest) = bytes.split_at_checked(len as usize)?;
     let ((sequence, writer), rest) = take_stamp(rest)?;
     let (container, rest) = take_container(rest, has(map, CONTAINER))?;
     let (live, rest) = take_state(rest, map)?;
@@ -61,9 +59,8 @@ pub(crate) fn take_fields(bytes: &[u8], map: u8, len: u8) -> Option<(Fields<'_>,
 fn take_stamp(bytes: &[u8]) -> Option<((u32, u8), &[u8])>
     ensures { option_map stamp_read result ≡ take_stamp bytes.now }
 {
-    let (sequence, rest) = take_u32(bytes)?;
-    let (writer, rest) = take_byte(rest)?;
-    Some(((sequence, writer), rest))
+    let ([a, b, c, d, writer], rest) = bytes.split_first_chunk::<5>()?;
+    Some(((u32::from_be_bytes([*a, *b, *c, *d]), *writer), rest))
 }
 
 fn take_container(bytes: &[u8], present: bool) -> Option<(u8, &[u8])>
@@ -72,11 +69,11 @@ fn take_container(bytes: &[u8], present: bool) -> Option<(u8, &[u8])>
     if !present {
         return Some((0, bytes));
     }
-    let (container, rest) = take_byte(bytes)?;
-    if container < 1 {
+    let (container, rest) = bytes.split_first()?;
+    if *container < 1 {
         return None;
     }
-    Some((container, rest))
+    Some((*container, rest))
 }
 
 fn take_state(bytes: &[u8], map: u8) -> Option<(Option<LiveFields<'_>>, &[u8])>
@@ -95,12 +92,12 @@ fn take_state(bytes: &[u8], map: u8) -> Option<(Option<LiveFields<'_>>, &[u8])>
 fn take_live(bytes: &[u8], map: u8) -> Option<(LiveFields<'_>, &[u8])>
     ensures { option_map live_read result ≡ take_live map bytes.now }
 {
-    let (clouds, rest) = take_byte(bytes)?;
+    let (clouds, rest) = bytes.split_first()?;
     let (size, rest) = take_size(rest, has(map, SIZE))?;
     let (digest, rest) = take_digest(rest, has(map, LONG_DIGEST))?;
     Some((
         LiveFields {
-            clouds,
+            clouds: *clouds,
             size,
             digest,
         },
@@ -114,7 +111,8 @@ fn take_size(bytes: &[u8], present: bool) -> Option<(u16, &[u8])>
     if !present {
         return Some((0, bytes));
     }
-    let (size, rest) = take_u16(bytes)?;
+    let ([a, b], rest) = bytes.split_first_chunk::<2>()?;
+    let size = u16::from_be_bytes([*a, *b]);
     if size < 1 {
         return None;
     }
@@ -124,7 +122,7 @@ fn take_size(bytes: &[u8], present: bool) -> Option<(u16, &[u8])>
 fn take_digest(bytes: &[u8], long: bool) -> Option<(&[u8], &[u8])>
     ensures { option_map part_read result ≡ take_digest long bytes.now }
 {
-    take_part(bytes, if long { 32 } else { 20 })
+    bytes.split_at_checked(if long { 32 } else { 20 })
 }
 
 // Whether this bit of the map stands.

@@ -10,6 +10,7 @@ use crate::fields::{Fields, take_fields};
 use crate::record::Record;
 use entry::entry::Entry;
 use entry::live::Live;
+use naming::address::Address;
 use naming::key::Key;
 use naming::stamp::Stamp;
 
@@ -19,9 +20,7 @@ impl Record {
         ensures value { option_map record_read result ≡ first_record bytes.now }
         ensures only { OnlyRecordsAreRead }
     {
-        let [map, len, fields @ ..] = bytes else {
-            return None;
-        };
+        let ([map, len], fields) = bytes.split_first_chunk::<2>()?;
         let (fields, rest) = take_fields(fields, *map, *len)?;
         let record = record_of(fields)?;
         Some((record, bytes.len() - rest.len()))
@@ -41,5 +40,9 @@ fn record_of(fields: Fields<'_>) -> Option<Record>
             Live::new(live.clouds, live.size as usize, live.digest)?,
         )?,
     };
-    Some(Record::new(fields.container, key, entry))
+    let at = Address {
+        container: fields.container,
+        key,
+    };
+    Some(Record::new(at, entry))
 }

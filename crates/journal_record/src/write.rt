@@ -5,13 +5,15 @@ ghost use Rattle.std.specs.Option.{option_map};
 ghost use Rattle.entry.specs.Entries.{live_value};
 ghost use Rattle.journal_record.specs.Records.{record_value};
 ghost use Rattle.journal_record.specs.Layout.{container_bit, container_field, digest_bit, encode, head_of, live_bits, live_fields, longest_record, map_of, size_bit, size_field};
-ghost use Rattle.journal_record.specs.Buffer.{buffered};
 ghost use Rattle.journal_record.specs.Written.{Written};
 ghost use Rattle.journal_record.specs.Laws.{RecordsReadBack};
 
-use crate::buffer::Buffer;
-use crate::record::Record;
+use crate::record::{LONGEST_RECORD, Record};
+use byte_strings::fixed::FixedBytes;
 use entry::live::Live;
+
+// The bytes of a record, as far as they are put together.
+type Encoded = FixedBytes<LONGEST_RECORD>;
 
 impl Record {
     /// How many bytes the record takes up.
@@ -31,28 +33,28 @@ impl Record {
         if out.len() < len {
             return None;
         }
-        out[0..len].copy_from_slice(buffer.as_slice());
+        out[..len].copy_from_slice(buffer.as_slice());
         Some(len)
     }
 
     // The bytes of the record.
-    fn encoded(&self) -> Buffer
-        ensures { buffered result ≡ encode (record_value self.now) }
+    fn encoded(&self) -> Encoded
+        ensures { result ≡ encode (record_value self.now) }
     {
         let mut buffer = self.head();
-        append_container(&mut buffer, self.container());
-        append_live(&mut buffer, self.entry().live());
+        append_container(&mut buffer, self.at.container);
+        append_live(&mut buffer, self.entry.live());
         buffer
     }
 
     // The bytes that every record has.
-    fn head(&self) -> Buffer
-        ensures { buffered result ≡ head_of (record_value self.now) }
+    fn head(&self) -> Encoded
+        ensures { result ≡ head_of (record_value self.now) }
     {
-        let mut buffer = Buffer::empty();
-        let stamp = self.entry().stamp();
-        buffer.append(&[self.map(), self.key().len() as u8]);
-        buffer.append(self.key().as_bytes());
+        let mut buffer = FixedBytes::new();
+        let stamp = self.entry.stamp();
+        buffer.append(&[self.map(), self.at.key.len() as u8]);
+        buffer.append(self.at.key.as_bytes());
         buffer.append(&stamp.sequence().to_be_bytes());
         buffer.append(&[stamp.writer()]);
         buffer
@@ -62,8 +64,8 @@ impl Record {
     fn map(&self) -> u8
         ensures { result ≡ map_of (record_value self.now) }
     {
-        let map = if self.container() == 0 { 0x80 } else { 0x81 };
-        match self.entry().live() {
+        let map = if self.at.container == 0 { 0x80 } else { 0x81 };
+        match self.entry.live() {
             None => map,
             Some(live) => map + live_bits(&live),
         }
@@ -71,9 +73,9 @@ impl Record {
 }
 
 // A container of 0 is left out.
-fn append_container(buffer: &mut Buffer, container: u8)
-    requires { length (buffered buffer.old) + 1 ≤ longest_record }
-    ensures { buffered buffer.new ≡ buffered buffer.old ++ container_field container }
+fn append_container(buffer: &mut Encoded, container: u8)
+    requires { length buffer.old + 1 ≤ longest_record }
+    ensures { buffer.new ≡ buffer.old ++ container_field container }
 {
     if container != 0 {
         buffer.append(&[container]);
@@ -81,9 +83,9 @@ fn append_container(buffer: &mut Buffer, container: u8)
 }
 
 // A deleted entry has no fields of a value.
-fn append_live(buffer: &mut Buffer, live: Option<Live>)
-    requires { length (buffered buffer.old) + 35 ≤ longest_record }
-    ensures { buffered buffer.new ≡ buffered buffer.old ++ live_fields (option_map live_value live) }
+fn append_live(buffer: &mut Encoded, live: Option<Live>)
+    requires { length buffer.old + 35 ≤ longest_record }
+    ensures { buffer.new ≡ buffer.old ++ live_fields (option_map live_value live) }
 {
     if let Some(live) = live {
         buffer.append(&[live.clouds()]);
@@ -93,9 +95,9 @@ fn append_live(buffer: &mut Buffer, live: Option<Live>)
 }
 
 // A size of 0 is left out.
-fn append_size(buffer: &mut Buffer, size: u16)
-    requires { length (buffered buffer.old) + 2 ≤ longest_record }
-    ensures { buffered buffer.new ≡ buffered buffer.old ++ size_field size }
+fn append_size(buffer: &mut Encoded, size: u16)
+    requires { length buffer.old + 2 ≤ longest_record }
+    ensures { buffer.new ≡ buffer.old ++ size_field size }
 {
     if size != 0 {
         buffer.append(&size.to_be_bytes());

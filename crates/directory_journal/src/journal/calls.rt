@@ -7,10 +7,10 @@ ghost use Rattle.directory_table.specs.Limits.{within_limits};
 
 use crate::journal::Journal;
 use crate::storing::store;
-use directory::interface::{CommitAnswer, Directory};
+use directory::interface::{CommitError, Directory};
 use entry::entry::Entry;
 use journal_record::record::Record;
-use naming::key::Key;
+use naming::address::Address;
 
 impl Directory for Journal {
     ghost meaning = { journal_meaning };
@@ -19,22 +19,20 @@ impl Directory for Journal {
         let t = s.index in
         within_limits (table_entries t) t.places t.distinct (omega (arith, t.used, t.entries.ok.0)) t.few };
 
-    fn look(&mut self, container: u8, key: &Key) -> Option<Entry> {
-        self.index.look(container, key)
+    fn look(&mut self, at: &Address) -> Option<Entry> {
+        self.index.look(at)
     }
 
-    fn commit(&mut self, container: u8, key: &Key, entry: &Entry) -> CommitAnswer {
-        let answer = self.index.commit(container, key, entry);
-        if let CommitAnswer::Committed = answer {
-            let record = Record::new(container, *key, *entry);
-            self.used = store(
-                self.bytes.as_mut_slice(),
-                self.used,
-                &record,
-                self.index.entries(),
-            );
-        }
-        answer
+    fn commit(&mut self, at: &Address, entry: &Entry) -> Result<(), CommitError> {
+        self.index.commit(at, entry)?;
+        let record = Record::new(*at, *entry);
+        self.used = store(
+            self.bytes.as_mut_slice(),
+            self.used,
+            &record,
+            self.index.entries(),
+        );
+        Ok(())
     }
 
     fn next(&mut self, container: u8, above: &[u8], place: &mut [u8; 32]) -> Option<usize> {

@@ -14,10 +14,8 @@ use crate::journal::Journal;
 use crate::memory::JournalMemory;
 use crate::replay::replay;
 use directory_table::table::Table;
+use journal_record::record::LONGEST_RECORD;
 use refusal::{Refusal, Rejected};
-
-// How many bytes the longest record has.
-const LONGEST_RECORD: usize = 75;
 
 impl Journal {
     /// The journal in these bytes, whatever they are. All of them are used, also where they are more than the places
@@ -26,14 +24,15 @@ impl Journal {
         ensures value { Opens memory places result }
         ensures laws { JournalLaws }
     {
-        let JournalMemory { bytes, index } = memory;
         // A record for each place, and one more.
-        if bytes.len() / LONGEST_RECORD <= places {
+        if memory.bytes.len() / LONGEST_RECORD <= places {
             return Err(Rejected {
                 refusal: Refusal::UnsupportedStorage,
-                given: JournalMemory { bytes, index },
+                given: memory,
             });
         }
+        let JournalMemory { bytes, index } = memory;
+        // No `map_err`: the bytes go into the journal or back.
         match Table::new(index, places) {
             Err(rejected) => Err(Rejected {
                 refusal: rejected.refusal,
@@ -76,16 +75,16 @@ impl Journal {
 }
 
 // The journal in the bytes, with an empty index of as many places.
-fn open_with(bytes: Vec<u8>, index: Table) -> Result<Journal, Rejected<JournalMemory>>
+fn open_with(bytes: Vec<u8>, mut index: Table) -> Result<Journal, Rejected<JournalMemory>>
     requires empty { table_meaning index ≡ empty_directory (capacity (table_meaning index)) }
     requires room { (capacity (table_meaning index) + 1) * longest_record ≤ vec_len bytes }
     ensures { OpensWith bytes (capacity (table_meaning index)) result }
 {
-    let mut index = index;
+    // No `map_err`: the memory goes into the journal or back.
     match replay(bytes.as_slice(), &mut index) {
         Ok(used) => Ok(Journal { bytes, used, index }),
-        Err(offset) => Err(Rejected {
-            refusal: Refusal::CorruptJournal { offset },
+        Err(refusal) => Err(Rejected {
+            refusal,
             given: JournalMemory {
                 bytes,
                 index: index.into_memory(),

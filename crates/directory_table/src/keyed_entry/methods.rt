@@ -7,32 +7,21 @@ ghost use Rattle.directory_table.specs.Entries.{container_of, key_address, key_o
 
 use crate::keyed_entry::KeyedEntry;
 use entry::entry::Entry;
-use naming::key::Key;
-use naming_next::container_key::ContainerKey;
+use naming::address::Address;
 
 impl KeyedEntry {
-    pub(crate) fn new(container: u8, key: &Key, entry: &Entry) -> KeyedEntry
-        ensures { pair result ≡ (address container key.now.bytes, entry_value entry.now) }
+    pub(crate) fn new(at: Address, entry: Entry) -> KeyedEntry
+        ensures { pair result ≡ (address at.container at.key.bytes, entry_value entry) }
     {
-        let at = ContainerKey {
-            container,
-            key: *key,
-        };
-        KeyedEntry { at, entry: *entry }
+        KeyedEntry { at, entry }
     }
 
-    /// The container of the key.
-    pub fn container(&self) -> u8
-        ensures { result ≡ container_of self.now }
+    /// The container of the key, and the key.
+    pub fn at(&self) -> Address
+        ensures container { result.container ≡ container_of self.now }
+        ensures key { result.key.bytes ≡ key_of self.now }
     {
-        self.at.container
-    }
-
-    /// The key.
-    pub fn key(&self) -> Key
-        ensures { result.bytes ≡ key_of self.now }
-    {
-        self.at.key
+        self.at
     }
 
     /// The key's entry.
@@ -43,9 +32,9 @@ impl KeyedEntry {
     }
 
     // Whether it is the entry of this key.
-    pub(crate) fn is_of(&self, container: u8, key: &Key) -> bool
-        ensures { Decides result (key_address self.now ≡ address container key.now.bytes) }
+    pub(crate) fn is_of(&self, at: &Address) -> bool
+        ensures { Decides result (key_address self.now ≡ address at.now.container at.now.key.bytes) }
     {
-        self.container() == container && self.key().is_same(key)
+        at.container == self.at.container && at.key.is_same(&self.at.key)
     }
 }

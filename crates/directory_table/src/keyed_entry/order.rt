@@ -1,27 +1,30 @@
-//! The order of the containers and then of the keys.
+//! The order of the addresses.
 
-ghost use Rattle.naming_next.specs.ContainerKeys.{container_key_le, container_key_above};
 ghost use Rattle.byte_strings.specs.OrderLaws.{preorder_by};
-ghost use Rattle.naming_next.specs.ContainerKeysLemmas.{container_key_preorder};
+ghost use Rattle.naming.specs.Addresses.{address_le, address_preorder};
+ghost use Rattle.std.proofs.Common.{rules};
 
 use crate::keyed_entry::KeyedEntry;
-use byte_strings::successor::{Bound, Ordered};
-use naming_next::container_key::{ContainerKey, KeyBound};
+use byte_strings::successor::Ordered;
+use naming::address::Address;
+use naming_next::addressed::Addressed;
 
 impl Ordered for KeyedEntry {
-    ghost le = { λ x y. container_key_le x.at y.at };
+    ghost le = { λ x y. address_le x.at y.at };
 
-    ghost ordered = { preorder_by (λ x. x.at) container_key_le container_key_preorder };
+    ghost ordered = { preorder_by (λ x. x.at) address_le address_preorder };
 
     fn is_at_most(&self, other: &KeyedEntry) -> bool {
         self.at.is_at_most(&other.at)
     }
 }
 
-impl<'a> Bound<KeyedEntry> for KeyBound<'a> {
-    ghost above = { λ q x. container_key_above q x.at };
+impl Addressed for KeyedEntry {
+    ghost at = { λ x. x.at };
 
-    fn is_below(&self, item: &KeyedEntry) -> bool {
-        <KeyBound<'_> as Bound<ContainerKey>>::is_below(self, &item.at)
+    ghost in_order = { Prim.search rules };
+
+    fn address(&self) -> &Address {
+        &self.at
     }
 }

@@ -12,7 +12,10 @@ const MOST_PLACES: usize = 64;
 impl Table {
     /// An empty table with this many places, all free. Refused where they are not 1 to 64 or the memory has not room
     /// for them. What the memory held is let go.
-    pub fn new(memory: Vec<KeyedEntry>, places: usize) -> Result<Table, Rejected<Vec<KeyedEntry>>>
+    pub fn new(
+        mut memory: Vec<KeyedEntry>,
+        places: usize,
+    ) -> Result<Table, Rejected<Vec<KeyedEntry>>>
         ensures { Made memory places result }
     {
         if places == 0 || places > MOST_PLACES || places > memory.capacity() {
@@ -21,7 +24,6 @@ impl Table {
                 given: memory,
             });
         }
-        let mut memory = memory;
         memory.clear();
         Ok(Table {
             entries: memory,

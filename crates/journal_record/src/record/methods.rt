@@ -6,33 +6,23 @@ ghost use Rattle.journal_record.specs.Records.{record_value, ValidRecord};
 
 use super::Record;
 use entry::entry::Entry;
-use naming::key::Key;
+use naming::address::Address;
 
 impl Record {
     /// The record of this entry.
-    pub fn new(container: u8, key: Key, entry: Entry) -> Record
-        ensures value { record_value result ≡ record { container = container; key = key.bytes; entry = entry_value entry } }
+    pub fn new(at: Address, entry: Entry) -> Record
+        ensures value { record_value result ≡ record { container = at.container; key = at.key.bytes; entry = entry_value entry } }
         ensures valid { ValidRecord (record_value result) }
     {
-        Record {
-            container,
-            key,
-            entry,
-        }
+        Record { at, entry }
     }
 
-    /// The container of the key.
-    pub fn container(&self) -> u8
-        ensures { result ≡ (record_value self.now).container }
+    /// The container of the key, and the key that was written.
+    pub fn at(&self) -> Address
+        ensures container { result.container ≡ (record_value self.now).container }
+        ensures key { result.key.bytes ≡ (record_value self.now).key }
     {
-        self.container
-    }
-
-    /// The key that was written.
-    pub fn key(&self) -> Key
-        ensures { result.bytes ≡ (record_value self.now).key }
-    {
-        self.key
+        self.at
     }
 
     /// What was written.

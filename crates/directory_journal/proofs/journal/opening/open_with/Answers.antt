@@ -28,7 +28,7 @@ returns-in-Err c =
     let t = c.replay.new.index in
     let bytes = ap (replay_from first 0 0) (sym c.as_slice.ensures.value) in
     let room = ap vec_capacity c.into_memory.ensures in (
-      ap meaning_in (from_empty first first (vec_items c.args.bytes) c.requires.empty refl ∙ bytes ∙ c.in-Err.ensures.value),
+      ap meaning_in (from_empty first first (vec_items c.args.bytes) c.requires.empty refl ∙ bytes) ∙ c.in-Err.ensures.value,
       refl,
       omega (arith, c.in-Err.ensures.places, table_capacity t, t.reserved, room),
     )

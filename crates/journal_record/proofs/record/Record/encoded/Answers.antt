@@ -1,7 +1,6 @@
 use Rattle.std.proofs.Common.{length, ap, append_assoc, arith, rules}
 use Rattle.journal_record.specs.Records.{record_value}
 use Rattle.journal_record.specs.Layout.{encode, container_field}
-use Rattle.journal_record.specs.Buffer.{buffered}
 use Rattle.journal_record.proofs.Valid.{record_is_valid}
 use Rattle.journal_record.proofs.Lengths.{length_appended, head_most, length_container}
 use Rattle.journal_record.proofs.record.Record.encoded.Goals as goal
@@ -13,8 +12,8 @@ append_container-requires c =
 pub append_live-requires : goal.append_live-requires
 append_live-requires c =
     let h = head_most (record_value c.args.self.now) (record_is_valid c.args.self.now) in
-    let n = length_appended (buffered c.head-buffer.result) (container_field c.container.result) _ c.append_container.ensures in
-    omega (arith, ap length c.head-buffer.ensures, length_container c.container.result)
+    let n = length_appended c.head-buffer.result (container_field c.args.self.now.at.container) _ c.append_container.ensures in
+    omega (arith, ap length c.head-buffer.ensures, length_container c.args.self.now.at.container)
 
 pub returns : goal.returns
 unfolding encode

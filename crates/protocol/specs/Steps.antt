@@ -16,6 +16,7 @@ use Rattle.directory.specs.declared.interface.CommitError.TheVariants.{Older, Fu
 use Rattle.directory.specs.Calls.{Answer, entry_of, stamp_of, commit_answer, commit_after}
 use Rattle.protocol.specs.declared.answers.CommitOutcome.{CommitOutcome}
 use Rattle.protocol.specs.declared.answers.CommitOutcome.TheVariants.{Committed, Passed}
+use Rattle.protocol.specs.declared.answers.Found.{Found}
 use Rattle.protocol.specs.declared.answers.Listed.{Listed}
 use Rattle.entry.specs.Clouds.{with_cloud, count}
 use Rattle.protocol.specs.Slots.{SlotValue, SavingValue, FetchingValue, SweepingValue, idle, saving, fetching, sweeping}
@@ -24,7 +25,7 @@ use Rattle.protocol.specs.Listing.{keys_of, listing}
 use Rattle.protocol.specs.Calls.{begin_save, store, commit, delete, begin_fetch, try_cloud, look_again, begin_sweep, sweep, leave, list}
 use Rattle.protocol.specs.Grounds.{first_ground, first_of, caller_grounds, slot_grounds, live_of, saved_entry}
 use Rattle.protocol.specs.Sweeping.{Swept}
-use Rattle.protocol.specs.Events.{Event, FoundValue, began_save, stored, committed, deleted, began_fetch, tried, looked_again, began_sweep, swept, left, listed}
+use Rattle.protocol.specs.Events.{Event, began_save, stored, committed, deleted, began_fetch, tried, looked_again, began_sweep, swept, left, listed}
 
 -- ---- refused, or done
 
@@ -127,7 +128,7 @@ abbrev pub size_of : Option LiveValue → ℕ
 size_of None = 0
 size_of (Some l) = l.size
 
-abbrev pub found_entry : Option EntryValue → FoundValue
+abbrev pub found_entry : Option EntryValue → Found
 found_entry e = record { stamp = stamp_of e; size = size_of (live_of e) }
 
 -- a fetch of the key that has looked: over where no value is there

@@ -76,6 +76,14 @@ sweeping_of (saving x) = record { container = 0; key = []; stamp = no_stamp }
 sweeping_of (fetching x) = record { container = 0; key = []; stamp = no_stamp }
 sweeping_of (sweeping x) = x
 
+-- the name under which a save puts its value
+abbrev pub save_name : SavingValue → List ℕ
+save_name x = name_of x.container x.key x.stamp
+
+-- the name under which a fetch gets its value
+abbrev pub fetch_name : FetchingValue → List ℕ
+fetch_name x = name_of x.container x.key x.stamp
+
 -- ---- saving
 
 -- the stamp of the key's next write
@@ -102,7 +110,7 @@ after_store s p x i (Err e) = s
 -- the value is put at the cloud under the save's name; a put that is acknowledged counts
 pub record Stores (s : State) (p i : ℕ) (v : List ℕ) (x : SavingValue) (r : Result ℕ Refusal) (s' : State) : Type 0 where
   pub said : Done
-  pub cloud : Called s.clouds i s'.clouds (λ m m'. PutOutcome m (name_of x.container x.key x.stamp) v said m') (said ≡ Err Silent)
+  pub cloud : Called s.clouds i s'.clouds (λ m m'. PutOutcome m (save_name x) v said m') (said ≡ Err Silent)
   pub answers : r ≡ store_answer x i said
   pub leaves : s' ≡ with_clouds (after_store s p x i said) s'.clouds
 
@@ -161,7 +169,7 @@ pub record Tries (S : Setting) (s : State) (p i : ℕ) (x : FetchingValue) (buff
   pub said : Length
   pub part : List ℕ
   pub whole : length part ≡ x.live.size
-  pub cloud : Called s.clouds i s'.clouds (λ m m'. GetOutcome m (name_of x.container x.key x.stamp) (take x.live.size buffer) said part m') ((said ≡ Err Silent) × (part ≡ take x.live.size buffer))
+  pub cloud : Called s.clouds i s'.clouds (λ m m'. GetOutcome m (fetch_name x) (take x.live.size buffer) said part m') ((said ≡ Err Silent) × (part ≡ take x.live.size buffer))
   pub answers : r ≡ try_answer S x i said part
   pub writes : buffer' ≡ part_after S x said part ++ drop x.live.size buffer
   pub leaves : s' ≡ with_clouds (after_try S s p x said part) s'.clouds

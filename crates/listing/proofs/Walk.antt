@@ -1,86 +1,52 @@
 -- The walk through the live keys of a container.
-use Rattle.std.proofs.Common.{◌≡◌, ℕ, suc, ◌+◌, ◌<◌, ◌≤◌, true, false, eqb, List, [], ◌∷◌, ◌++◌, length, take, drop, IfSome, Some, None, Option, sym, refl, ap, ◌∙◌, subst, ⊎_elim, append_assoc, append-nil, arith, length-append, take-append-drop, MatchOption}
+use Rattle.std.proofs.Common.{◌≡◌, ℕ, suc, ◌+◌, ◌<◌, ◌≤◌, true, false, eqb, List, [], ◌∷◌, ◌++◌, length, take, drop, length-append, append_assoc, take-append-drop, IfSome, Some, None, Option, sym, refl, ap, ◌∙◌, subst, ⊎_elim, arith, MatchOption}
 use Rattle.std.specs.Option.{option_map}
 use Rattle.std.proofs.lemmas.Bool.{cases_Bool, both_ways}
-use Rattle.std.proofs.lemmas.List.{take_at}
+use Rattle.std.proofs.lemmas.List.{take_at, drop_at, drop-drop}
 use Rattle.byte_strings.specs.Order.{below, at_most}
 use Rattle.byte_strings.specs.OrderLaws.{below_irreflexive}
 use Rattle.bytemap.specs.Map.{Map, find, next_key, beyond, AllAbove, Ascending}
 use Rattle.bytemap.proofs.Find.{find_cons, same_self, below_apart, below_asymmetric, all_above_weaker}
 use Rattle.bytemap.proofs.Next.{next_is_found}
-use Rattle.bytemap.proofs.Walk.{beyond_all, beyond_fewer, next_all_above}
+use Rattle.bytemap.proofs.Walk.{beyond_all, beyond_fewer, beyond_none, next_all_above}
 use Rattle.naming.specs.declared.key.Key.{Key}
 use Rattle.naming.specs.Text.{valid_key}
-use Rattle.naming.proofs.Keys.{valid_key_low, valid_key_high}
+use Rattle.naming.proofs.Keys.{valid_key_low}
 use Rattle.entry.specs.Entries.{EntryValue, LiveValue}
 use Rattle.directory.specs.Meaning.{DirectoryMeaning, WithinLimits, address, contents, with_key}
 use Rattle.directory.specs.Calls.{entry_of, key_after, place_with}
 use Rattle.directory.proofs.Contents.{find_contents, ascending_contents}
 use Rattle.protocol.specs.declared.answers.Listed.{Listed}
 use Rattle.protocol.specs.Grounds.{is_there, live_of}
-use Rattle.protocol.specs.Listing.{key_if_live, live_keys, keys_of, listing}
-use Rattle.listing.specs.Walk.{keys_from, measured}
+use Rattle.protocol.specs.Listing.{key_if_live, keys_of, listing, live_keys}
+use Rattle.listing.specs.declared.keys.LiveKeys.{LiveKeys}
+use Rattle.listing.specs.Sizes.{measured}
+use Rattle.listing.specs.Walk.{key_given, bytes_of, inside, left, SameDirectory, Steps}
 
 -- ---- one key after another
 
--- the live keys from a key on, which may be deleted itself
-abbrev pub live_from : Map EntryValue → Option (List ℕ) → List (List ℕ)
-live_from m None = []
-live_from m (Some k) = key_if_live (live_of (find m k)) k (live_keys (beyond k m))
-
--- how many keys there are from a key on
-abbrev pub ahead : Map EntryValue → Option (List ℕ) → ℕ
-ahead m None = 0
-ahead m (Some k) = suc (length (beyond k m))
-
--- an entry in front of those from k on
-live_past : (p : List ℕ × EntryValue) (m : Map EntryValue) (k : List ℕ) → below p.0 k ≡ true → live_from (p ∷ m) (Some k) ≡ live_from m (Some k)
-unfolding beyond
-live_past p m k b =
-    let s = below_apart p.0 k b in
-    let u = below_asymmetric p.0 k b in
-    rw (find_cons p m k, s, u)
-
-live_first : (p : List ℕ × EntryValue) (m : Map EntryValue) (a : List ℕ) → AllAbove p.0 m → below a p.0 ≡ true → live_keys (beyond a (p ∷ m)) ≡ live_from (p ∷ m) (Some p.0)
-unfolding beyond live_keys
-live_first p m a above s =
-    let t = same_self p.0 in
-    let u = below_irreflexive p.0 in
-    rw (s, find_cons p m p.0, t, u) (ap (λ q. key_if_live p.1.live p.0 (live_keys q)) (beyond_all a m (all_above_weaker a p.0 m s above) ∙ sym (beyond_all p.0 m above)))
-
-live_all_past : (p : List ℕ × EntryValue) (m : Map EntryValue) (a : List ℕ) → AllAbove p.0 m → live_from m (next_key m a) ≡ live_from (p ∷ m) (next_key m a)
-live_all_past p m a above = past (next_key m a) refl where
-  past : (o : Option (List ℕ)) → next_key m a ≡ o → live_from m o ≡ live_from (p ∷ m) o
-  past None e = refl
-  past (Some k) e = sym (live_past p m k (next_all_above a p.0 k m above e))
-
-pub live_next : (m : Map EntryValue) (a : List ℕ) → Ascending m → live_keys (beyond a m) ≡ live_from m (next_key m a)
+-- the next key, where it is live, and the live ones beyond it
+pub next_left : (m : Map EntryValue) (a k : List ℕ) → Ascending m → next_key m a ≡ Some k → live_keys (beyond a m) ≡ key_if_live (live_of (find m k)) k (live_keys (beyond k m))
 unfolding beyond next_key live_keys
-live_next [] a asc = refl
-live_next (p ∷ m) a asc =
-    ⊎_elim (λ (s : below a p.0 ≡ true). live_first p m a asc.0 s ∙ rw s)
-    (λ (s : below a p.0 ≡ false). rw s (live_next m a asc.1 ∙ live_all_past p m a asc.0))
-    (cases_Bool (below a p.0))
-
--- the key k, where it is live, and where it is deleted
-module _ (m : Map EntryValue) (k : List ℕ) where
-  pub live_here : true ≡ is_there (live_of (find m k)) → live_from m (Some k) ≡ k ∷ live_keys (beyond k m)
-  live_here t = here (live_of (find m k)) t where
-    here : (o : Option LiveValue) → true ≡ is_there o → key_if_live o k (live_keys (beyond k m)) ≡ k ∷ live_keys (beyond k m)
-    here None t = absurd (grind arith)
-    here (Some l) t = refl
-
-  pub deleted_here : false ≡ is_there (live_of (find m k)) → live_from m (Some k) ≡ live_keys (beyond k m)
-  deleted_here t = here (live_of (find m k)) t where
-    here : (o : Option LiveValue) → false ≡ is_there o → key_if_live o k (live_keys (beyond k m)) ≡ live_keys (beyond k m)
-    here None t = refl
-    here (Some l) t = absurd (grind arith)
-
-pub ahead_less : (m : Map EntryValue) (k : List ℕ) → Ascending m → ahead m (next_key m k) < ahead m (Some k)
-ahead_less m k asc = less (next_key m k) refl where
-  less : (o : Option (List ℕ)) → next_key m k ≡ o → ahead m o < suc (length (beyond k m))
-  less None e = omega arith
-  less (Some j) e = omega (arith, beyond_fewer k j m asc e)
+next_left [] a k asc e = absurd (grind arith)
+next_left (p ∷ m) a k asc e =
+    ⊎_elim
+    (λ (s : below a p.0 ≡ true).
+    let r : Some p.0 ≡ Some k = rw s at e in
+    let d : p.0 ≡ k = cc in
+    subst (λ x. live_keys (beyond a (p ∷ m)) ≡ key_if_live (live_of (find (p ∷ m) x)) x (live_keys (beyond x (p ∷ m)))) d (here s))
+    (λ (s : below a p.0 ≡ false).
+    let r : next_key m a ≡ Some k = rw s at e in
+    let b = next_all_above a p.0 k m asc.0 r in
+    let u = below_apart p.0 k b in
+    let v = below_asymmetric p.0 k b in
+    rw (s, find_cons p m k, u, v) (next_left m a k asc.1 r))
+    (cases_Bool (below a p.0)) where
+  here : below a p.0 ≡ true → live_keys (beyond a (p ∷ m)) ≡ key_if_live (live_of (find (p ∷ m) p.0)) p.0 (live_keys (beyond p.0 (p ∷ m)))
+  here s =
+      let t = same_self p.0 in
+      let u = below_irreflexive p.0 in
+      rw (s, find_cons p m p.0, t, u) (ap (λ q. key_if_live p.1.live p.0 (live_keys q)) (beyond_all a m (all_above_weaker a p.0 m s asc.0) ∙ sym (beyond_all p.0 m asc.0)))
 
 -- ---- keys of a directory
 
@@ -116,54 +82,70 @@ module _ (d : DirectoryMeaning) (limits : WithinLimits d) (c : ℕ) where
   from_start = ap live_keys (beyond_all [] (contents c d.entries) (all_nonempty (contents c d.entries) ascending_keys valid_found))
 
 -- a key that the directory wrote to a place, made of its bytes
-pub key_read : (o : Option (List ℕ)) → IfSome o (λ k. valid_key k ≡ true) → (len : ℕ) (place place' bytes : List ℕ) → Some len ≡ option_map length o → place' ≡ place_with o place → bytes ≡ take len place'
-    → (r : Option Key) → MatchOption r (valid_key bytes ≡ false) (λ k. (valid_key bytes ≡ true) × (k.bytes ≡ bytes)) → option_map r.bytes ≡ o
-key_read None valid len place place' bytes l w b r h = absurd (grind arith)
-key_read (Some k) valid len place place' bytes l w b r h = made r h where
-  size : len ≡ length k
-  size = cc
+pub key_read : (o : Option (List ℕ)) → IfSome o (λ k. valid_key k ≡ true) → (len : ℕ) (place place' : List ℕ) → Some len ≡ option_map length o → place' ≡ place_with o place
+    → (r : Option Key) → MatchOption r (valid_key (take len place') ≡ false) (λ k. (valid_key (take len place') ≡ true) × (k.bytes ≡ take len place')) → key_given r ≡ o
+key_read None valid len place place' l w r h = absurd (grind arith)
+key_read (Some k) valid len place place' l w r h = made r h where
+  same : take len place' ≡ k
+  same = ap (take len) w ∙ take_at k (drop (length k) place) len (cc)
 
-  same : bytes ≡ k
-  same = b ∙ ap (take len) w ∙ take_at k (drop (length k) place) len (sym size)
-
-  made : (r : Option Key) → MatchOption r (valid_key bytes ≡ false) (λ k. (valid_key bytes ≡ true) × (k.bytes ≡ bytes)) → option_map r.bytes ≡ Some k
+  made : (r : Option Key) → MatchOption r (valid_key (take len place') ≡ false) (λ k. (valid_key (take len place') ≡ true) × (k.bytes ≡ take len place')) → key_given r ≡ Some k
   made None h = absurd (both_ways (valid_key k) (subst (λ y. valid_key y ≡ false) same h) valid)
   made (Some x) h = ap Some (h.1 ∙ same)
 
-pub key_fits : (o : Option (List ℕ)) → IfSome o (λ k. valid_key k ≡ true) → (len : ℕ) → Some len ≡ option_map length o → len ≤ 32
-key_fits None valid len l = absurd (grind arith)
-key_fits (Some k) valid len l = let size : len ≡ length k = cc in omega (arith, valid_key_high k valid)
+-- ---- steps of the walk
 
--- ---- the walk, at the key o, has passed over deleted keys only since the bytes a
+-- a key that is live, and one that is deleted
+live_first : (o : Option LiveValue) (k : List ℕ) (ks : List (List ℕ)) → true ≡ is_there o → key_if_live o k ks ≡ k ∷ ks
+live_first None k ks t = absurd (grind arith)
+live_first (Some l) k ks t = refl
 
-abbrev pub Walked : DirectoryMeaning → ℕ → List ℕ → Option Key → Type 0
-Walked d c a o = live_from (contents c d.entries) (option_map o.bytes) ≡ live_keys (beyond a (contents c d.entries))
+deleted_first : (o : Option LiveValue) (k : List ℕ) (ks : List (List ℕ)) → false ≡ is_there o → key_if_live o k ks ≡ ks
+deleted_first None k ks t = refl
+deleted_first (Some l) k ks t = absurd (grind arith)
 
-module _ (d : DirectoryMeaning) (c : ℕ) (a : List ℕ) where
-  pub walk_begins : WithinLimits d → (r : Option Key) → option_map r.bytes ≡ key_after d c a → Walked d c a r
-  walk_begins limits r e = ap (live_from (contents c d.entries)) e ∙ sym (live_next (contents c d.entries) a (ascending_keys d limits c))
+module _ {D : Type 0} (means : D → DirectoryMeaning) where
+  pub same_on : {s t u : LiveKeys D} → SameDirectory means s t → SameDirectory means t u → SameDirectory means s u
+  same_on p q = record { directory = q.directory ∙ p.directory; meaning = q.meaning ∙ p.meaning; container = q.container ∙ p.container }
 
-  module _ (k : Key) (o : Option Key) (is : o ≡ Some k) (walked : Walked d c a o) where
-    at_key : live_from (contents c d.entries) (Some k.bytes) ≡ live_keys (beyond a (contents c d.entries))
-    at_key = subst (Walked d c a) is walked
+  inside_same : {s t : LiveKeys D} → SameDirectory means s t → inside means t ≡ inside means s
+  inside_same p = rw (p.container, p.meaning) refl
 
-    pub walk_ends : true ≡ is_there (live_of (entry_of d c k.bytes)) → keys_from (contents c d.entries) (Some k) ≡ live_keys (beyond a (contents c d.entries))
-    walk_ends t = sym (live_here (contents c d.entries) k.bytes (t ∙ ap (λ e. is_there (live_of e)) (sym (find_contents c d.entries k.bytes)))) ∙ at_key
+  pub ends : {s t : LiveKeys D} → SameDirectory means s t → t.last ≡ s.last → None ≡ next_key (inside means s) (bytes_of s.last) → (left means s ≡ []) × (left means t ≡ [])
+  unfolding live_keys
+  ends {s} {t} p e none =
+      let l : left means s ≡ [] = ap live_keys (beyond_none (bytes_of s.last) (inside means s) (sym none)) in
+      let same : left means t ≡ left means s = rw (e, inside_same p) refl in
+      (l, same ∙ l)
 
-    pub walk_goes_on : WithinLimits d → false ≡ is_there (live_of (entry_of d c k.bytes)) → (r : Option Key) → option_map r.bytes ≡ key_after d c k.bytes → Walked d c a r
-    walk_goes_on limits t r e =
-        ap (live_from (contents c d.entries)) e
-        ∙ sym (live_next (contents c d.entries) k.bytes (ascending_keys d limits c))
-        ∙ sym (deleted_here (contents c d.entries) k.bytes (t ∙ ap (λ e. is_there (live_of e)) (sym (find_contents c d.entries k.bytes))))
-        ∙ at_key
+  -- at s the directory gave the key k, with which the walk went on to t
+  module _ (limits : (d : D) → WithinLimits (means d)) {s n t : LiveKeys D} {k : Key} (p : SameDirectory means s n) (q : SameDirectory means (record n { last = Some k }) t) (at : t.last ≡ Some k)
+      (next : Some k.bytes ≡ next_key (inside means s) (bytes_of s.last)) where
+    pub on : SameDirectory means s t
+    on = record { directory = q.directory ∙ p.directory; meaning = q.meaning ∙ p.meaning; container = q.container ∙ p.container }
 
-pub walk_shrinks : (d : DirectoryMeaning) → WithinLimits d → (c : ℕ) (k : Key) (o r : Option Key) → o ≡ Some k → option_map r.bytes ≡ key_after d c k.bytes → ahead (contents c d.entries) (option_map r.bytes) < ahead (contents c d.entries) (option_map o.bytes)
-walk_shrinks d limits c k o r is e =
-    let m = contents c d.entries in
-    let l = ahead_less m k.bytes (ascending_keys d limits c) in
-    let p = ap (λ x. ahead m x) e in
-    let q = ap (λ x. ahead m (option_map x.bytes)) is in
-    omega arith
+    asc : Ascending (inside means s)
+    asc = ascending_keys (means s.directory.now) (limits s.directory.now) s.container
+
+    beyond_it : beyond (bytes_of t.last) (inside means t) ≡ beyond k.bytes (inside means s)
+    beyond_it = rw (at, inside_same on) refl
+
+    abbrev value : Option LiveValue
+    value = live_of (entry_of (means n.directory.now) n.container k.bytes)
+
+    step : left means s ≡ key_if_live value k.bytes (left means t)
+    step =
+        let found : find (inside means s) k.bytes ≡ entry_of (means n.directory.now) n.container k.bytes = find_contents s.container (means s.directory.now).entries k.bytes ∙ rw (p.container, p.meaning) refl in
+        next_left (inside means s) (bytes_of s.last) k.bytes asc (sym next) ∙ rw (found, beyond_it) refl
+
+    pub gives : true ≡ is_there value → left means s ≡ k.bytes ∷ left means t
+    gives live = step ∙ live_first value k.bytes (left means t) live
+
+    pub skips : false ≡ is_there value → left means s ≡ left means t
+    skips deleted = step ∙ deleted_first value k.bytes (left means t) deleted
+
+    pub nearer : length (beyond (bytes_of t.last) (inside means t)) < length (beyond (bytes_of s.last) (inside means s))
+    nearer = omega (arith, ap length beyond_it, beyond_fewer (bytes_of s.last) k.bytes (inside means s) asc (sym next))
 
 -- ---- sizes
 
@@ -188,21 +170,6 @@ few_keys d limits c = omega (arith, live_few (contents c d.entries), contents_fe
 
 -- ---- the listing, key by key
 
--- at first the rest is all; then each step takes one key off it. The directory means d all the time.
-pub rest_begins : (d d' : DirectoryMeaning) (c : ℕ) (r : Option Key) → WithinLimits d → d' ≡ d → keys_from (contents c d.entries) r ≡ live_keys (beyond [] (contents c d.entries)) → keys_from (contents c d'.entries) r ≡ keys_of d' c
-rest_begins d d' c r limits same e = subst (λ x. keys_from (contents c x.entries) r ≡ keys_of x c) (sym same) (e ∙ from_start d limits c)
-
-pub rest_goes_on : (d d' : DirectoryMeaning) (c : ℕ) (k : Key) (a : List ℕ) (o r : Option Key) → d' ≡ d → a ≡ k.bytes → o ≡ Some k → keys_from (contents c d'.entries) r ≡ live_keys (beyond a (contents c d'.entries))
-    → keys_from (contents c d.entries) o ≡ k.bytes ∷ keys_from (contents c d.entries) r
-rest_goes_on d d' c k a o r same from is e =
-    let m = contents c d.entries in
-    let f : keys_from m r ≡ live_keys (beyond a m) = subst (λ x. keys_from (contents c x.entries) r ≡ live_keys (beyond a (contents c x.entries))) same e in
-    ap (keys_from m) is ∙ ap (λ ks. k.bytes ∷ ks) (sym (f ∙ ap (λ b. live_keys (beyond b m)) from))
-
-listing_more : (k : List ℕ) (ks : List (List ℕ)) → listing (k ∷ ks) ≡ length k ∷ (k ++ listing ks)
-unfolding listing
-listing_more k ks = refl
-
 pub length_listing_more : (k : List ℕ) (ks rest : List (List ℕ)) → ks ≡ k ∷ rest → length (listing ks) ≡ suc (length k + length (listing rest))
 unfolding listing
 length_listing_more k ks rest e = ap (λ l. length (listing l)) e ∙ ap suc (length-append k (listing rest))
@@ -214,18 +181,27 @@ measured_is count bytes keys rest none p q =
     let b : bytes ≡ length (listing keys) = omega (arith, ap (λ ks. length (listing ks)) none) in
     λ i. record { count = c i; bytes = b i }
 
--- the front of the buffer and the rest of the listing make the listing js: after one key more, and at the end
-pub written_on : (front front' k : List ℕ) (rest rest' : List (List ℕ)) (js : List ℕ) → front' ≡ front ++ (length k ∷ k) → rest ≡ k ∷ rest' → front ++ listing rest ≡ js → front' ++ listing rest' ≡ js
-written_on front front' k rest rest' js put step h =
-    ap (λ f. f ++ listing rest') put
-    ∙ append_assoc front (length k ∷ k) (listing rest')
-    ∙ ap (λ l. front ++ l) (sym (listing_more k rest'))
-    ∙ ap (λ ks. front ++ listing ks) (sym step)
-    ∙ h
+-- a buffer in which these bytes are written from a place on
+abbrev pub over_at : ℕ → List ℕ → List ℕ → List ℕ
+over_at at bytes b = take at b ++ (bytes ++ drop (length bytes) (drop at b))
 
-pub written_whole : (at : ℕ) (b b₀ js : List ℕ) (rest : List (List ℕ)) → rest ≡ [] → at + length (listing rest) ≡ length js → take at b ++ listing rest ≡ js → ((m : ℕ) → at ≤ m → drop m b ≡ drop m b₀) → b ≡ js ++ drop (length js) b₀
+-- after f a key is written, and the rest of the listing is still to come
+put_on : (f p k l : List ℕ) (at n : ℕ) → length f ≡ at → n ≡ 1 + length k → over_at (at + n) l (f ++ (length k ∷ (k ++ drop n p))) ≡ f ++ ((length k ∷ (k ++ l)) ++ drop (length (length k ∷ (k ++ l))) p)
+put_on f p k l at n size more =
+    let h : List ℕ = length k ∷ k in
+    let long : length (f ++ h) ≡ at + n = omega (arith, length-append f h) in
+    let split : f ++ (h ++ drop n p) ≡ (f ++ h) ++ drop n p = sym (append_assoc f h (drop n p)) in
+    let both : n + length l ≡ length (h ++ l) = omega (arith, length-append h l) in
+    rw (split, take_at (f ++ h) (drop n p) (at + n) long, drop_at (f ++ h) (drop n p) (at + n) long, drop-drop (length l) n p, both) (simp append_assoc)
+
+pub over_on : (at n : ℕ) (b f p p' k : List ℕ) (ks rest : List (List ℕ)) → b ≡ f ++ p → length f ≡ at → n ≡ 1 + length k → p' ≡ length k ∷ (k ++ drop n p) → ks ≡ k ∷ rest → over_at (at + n) (listing rest) (f ++ p') ≡ over_at at (listing ks) b
 unfolding listing
-written_whole at b b₀ js rest none size front kept =
-    let n : at ≡ length js = omega (arith, ap (λ ks. length (listing ks)) none) in
-    let f : take at b ≡ js = sym (append-nil (take at b)) ∙ ap (λ ks. take at b ++ listing ks) (sym none) ∙ front in
-    sym (take-append-drop at b) ∙ rw (f, kept at (omega arith), n)
+over_on at n b f p p' k ks rest whole size more put step =
+    ap (λ q. over_at (at + n) (listing rest) (f ++ q)) put
+    ∙ put_on f p k (listing rest) at n size more
+    ∙ rw (whole, step, take_at f p at size, drop_at f p at size) refl
+
+-- at the end nothing is still to come
+pub over_ends : (at : ℕ) (b : List ℕ) (rest : List (List ℕ)) → rest ≡ [] → b ≡ over_at at (listing rest) b
+unfolding listing
+over_ends at b rest none = sym (take-append-drop at b) ∙ rw none refl

@@ -1,23 +1,39 @@
--- A listing and what it writes; what is left of it from a key on.
-use Rattle.std.specs.Prelude.{ℕ, cond, List, [], ◌∷◌, ◌++◌, length, drop, Some, None, Option, nat_lt}
+-- The walk through the live keys of a container.
+use Rattle.std.specs.Prelude.{◌≡◌, ℕ, List, [], Some, None, Option}
+use Rattle.std.specs.Option.{option_map}
+use Rattle.std.specs.Iterator.{YieldsFirstBy}
 use Rattle.bytemap.specs.Map.{Map, beyond}
 use Rattle.naming.specs.declared.key.Key.{Key}
 use Rattle.entry.specs.Entries.{EntryValue}
-use Rattle.protocol.specs.declared.answers.Listed.{Listed}
-use Rattle.protocol.specs.Listing.{live_keys, listing}
+use Rattle.directory.specs.Meaning.{DirectoryMeaning, contents}
+use Rattle.protocol.specs.Listing.{live_keys}
+use Rattle.listing.specs.declared.keys.LiveKeys.{LiveKeys}
 
-abbrev pub measured : List (List ℕ) → Listed
-measured keys = record { count = length keys; bytes = length (listing keys) }
+-- the bytes of a key that was given
+abbrev pub key_given : Option Key → Option (List ℕ)
+key_given o = option_map (λ (k : Key). k.bytes) o
 
--- the answer, where the listing fits the buffer
-abbrev pub listed : List (List ℕ) → List ℕ → Option Listed
-listed keys buffer = cond (nat_lt (length buffer) (length (listing keys))) None (Some (measured keys))
+-- those above which the next key is sought: at first none
+abbrev pub bytes_of : Option Key → List ℕ
+bytes_of None = []
+bytes_of (Some k) = k.bytes
 
--- the buffer with the listing at its front, where it fits
-abbrev pub listed_over : List (List ℕ) → List ℕ → List ℕ
-listed_over keys buffer = cond (nat_lt (length buffer) (length (listing keys))) buffer (listing keys ++ drop (length (listing keys)) buffer)
+module _ {D : Type 0} (means : D → DirectoryMeaning) where
+  -- the container's entries, by their keys
+  abbrev pub inside : LiveKeys D → Map EntryValue
+  inside s = contents s.container (means s.directory.now).entries
 
--- a key and the live ones beyond it
-abbrev pub keys_from : Map EntryValue → Option Key → List (List ℕ)
-keys_from m None = []
-keys_from m (Some k) = k.bytes ∷ live_keys (beyond k.bytes m)
+  -- the live keys that are still to come
+  abbrev pub left : LiveKeys D → List (List ℕ)
+  left s = live_keys (beyond (bytes_of s.last) (inside s))
+
+  -- the walk goes on at the same directory, which keeps its meaning, and in the same container
+  pub record SameDirectory (s t : LiveKeys D) : Type 0 where
+    pub directory : t.directory.ghost_name ≡ s.directory.ghost_name
+    pub meaning : means t.directory.now ≡ means s.directory.now
+    pub container : t.container ≡ s.container
+
+  -- one step gives the first of the keys that are left
+  pub record Steps (s : LiveKeys D) (r : Option Key) (t : LiveKeys D) : Type 0 where
+    pub key : YieldsFirstBy (λ (k : Key). k.bytes) left s r t
+    pub same : SameDirectory s t

@@ -8,7 +8,7 @@ ghost use Rattle.protocol.specs.Sweeping.{Swept};
 ghost use Rattle.sweeping.specs.Answers.{Asked, said};
 
 use byte_strings::compare::is_below;
-use naming::key::Key;
+use naming::address::Address;
 use naming::name::Name;
 use naming::stamp::Stamp;
 use refusal::{Cause, CloudFault};
@@ -23,28 +23,26 @@ const MOST_NAMES: usize = 64;
 pub fn sweep<R: Row>(
     row: &mut R,
     number: usize,
-    container: u8,
-    key: &Key,
+    at: &Address,
     stamp: &Stamp,
 ) -> Result<usize, CloudFault>
-    ensures chain { Swept (λ a above place s place' b. R.Row.nexts a number above place s place' b) (λ a name s b. R.Row.drops a number name s b) (record { container = container; key = key.now.bytes; stamp = stamp.now }) row.old row.new (said result) }
-    ensures meaning { Swept (next_at number) (drop_at number) (record { container = container; key = key.now.bytes; stamp = stamp.now }) (R.Row.clouds row.old) (R.Row.clouds row.new) (said result) }
+    ensures chain { Swept (λ a above place s place' b. R.Row.nexts a number above place s place' b) (λ a name s b. R.Row.drops a number name s b) (record { container = at.now.container; key = at.now.key.bytes; stamp = stamp.now }) row.old row.new (said result) }
+    ensures meaning { Swept (next_at number) (drop_at number) (record { container = at.now.container; key = at.now.key.bytes; stamp = stamp.now }) (R.Row.clouds row.old) (R.Row.clouds row.new) (said result) }
     ensures fault { result ≡ numbered number (said result) }
 {
-    at_cloud(number, sweep_cloud(row, number, container, key, stamp))
+    at_cloud(number, sweep_cloud(row, number, at, stamp))
 }
 
 fn sweep_cloud<R: Row>(
     row: &mut R,
     number: usize,
-    container: u8,
-    key: &Key,
+    at: &Address,
     stamp: &Stamp,
 ) -> Result<usize, Cause>
-    ensures { Swept (λ a above place s place' b. R.Row.nexts a number above place s place' b) (λ a name s b. R.Row.drops a number name s b) (record { container = container; key = key.now.bytes; stamp = stamp.now }) row.old row.new result }
+    ensures { Swept (λ a above place s place' b. R.Row.nexts a number above place s place' b) (λ a name s b. R.Row.drops a number name s b) (record { container = at.now.container; key = at.now.key.bytes; stamp = stamp.now }) row.old row.new result }
 {
-    let bound = Name::new(container, key, stamp);
-    let mut last = Name::new(container, key, &Stamp::none());
+    let bound = Name::new(at, stamp);
+    let mut last = Name::new(at, &Stamp::none());
     let mut seen: usize = 0;
     let mut dropped: usize = 0;
     while let Some(name) = next_name(row, number, &last)? {
@@ -57,7 +55,7 @@ fn sweep_cloud<R: Row>(
         if !is_before(&name, &bound) {
             return Ok(dropped);
         }
-        if Name::is_of(name.as_bytes(), container, key) {
+        if Name::is_of(name.as_bytes(), at) {
             drop_name(row, number, &name)?;
             dropped += 1;
         }

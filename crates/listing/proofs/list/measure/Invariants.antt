@@ -1,15 +1,16 @@
 use Rattle.std.proofs.Common.{◌≡◌, ◌+◌, ◌*◌, ◌≤◌, length}
-use Rattle.directory.specs.Meaning.{contents}
 use Rattle.protocol.specs.Listing.{keys_of, listing}
-use Rattle.listing.specs.Walk.{keys_from}
+use Rattle.listing.specs.Walk.{left}
 use Rattle.listing.proofs.list.measure.Given as goal
 
-abbrev pub invariant-loop-next : goal.invariant-loop-next
-invariant-loop-next g l =
-    (g.D.Directory.meaning l.directory ≡ g.D.Directory.meaning l.initial.directory)
-    × (l.count + length (keys_from (contents l.container (g.D.Directory.meaning l.initial.directory).entries) l.next) ≡ length (keys_of (g.D.Directory.meaning l.initial.directory) l.container))
-    × (l.bytes + length (listing (keys_from (contents l.container (g.D.Directory.meaning l.initial.directory).entries) l.next)) ≡ length (listing (keys_of (g.D.Directory.meaning l.initial.directory) l.container)))
-    × (l.bytes ≤ 33 * l.count)
-
-abbrev pub decreases-loop-next : goal.decreases-loop-next
-decreases-loop-next g l = length (keys_from (contents l.container (g.D.Directory.meaning l.initial.directory).entries) l.next)
+abbrev pub invariant-loop-key : goal.invariant-loop-key
+invariant-loop-key g l =
+    record {
+      can : (goal.iterator-loop-key g).can_next l.key-iterator;
+      ends : (goal.iterator-loop-key g).is_finite l.key-iterator;
+      name : l.key-iterator.directory.ghost_name ≡ l.initial.key-iterator.directory.ghost_name;
+      same : g.D.Directory.meaning l.key-iterator.directory.now ≡ g.D.Directory.meaning l.fn.directory;
+      count : l.size.count + length (left g.D.Directory.meaning l.key-iterator) ≡ length (keys_of (g.D.Directory.meaning l.fn.directory) l.container);
+      bytes : l.size.bytes + length (listing (left g.D.Directory.meaning l.key-iterator)) ≡ length (listing (keys_of (g.D.Directory.meaning l.fn.directory) l.container));
+      few : l.size.bytes ≤ 33 * l.size.count;
+    }

@@ -10,7 +10,7 @@ use Rattle.sweeping.proofs.sweep.sweep_cloud.Goals.{then-is_of+in_ok-drop_name, 
 
 pub loop-name-init : goal.loop-name-init
 loop-name-init g c =
-    let e = c.new-last.ensures.value ∙ ap (λ (s : StampValue). name_of c.args.container c.args.key.now.bytes s) c.none.ensures in
+    let e = c.new-last.ensures.value ∙ ap (λ (s : StampValue). name_of c.args.at.now.container c.args.at.now.key.bytes s) c.none.ensures in
     (omega arith, omega arith, rw e begin)
 
 pub returns-in_err-name : goal.returns-in_err-name
@@ -34,7 +34,7 @@ returns-in_err-drop_name g c =
     let p = err_from_is_err_and c.from_residual-in_err-drop_name.result c.from_residual-in_err-drop_name.ensures.1 in
     rw (p.1, p.2) (drop_refused c.loop-name.invariant.2 (gives _ _ _ (given _ c.in_ok-name.ensures c.in-Some.is) (sym c.if-not-is_before.ensures) (omega arith))
     (ap (below (c.in-Some.name)) (sym c.new-bound.ensures.value) ∙ sym c.if-not-is_before-2.ensures)
-    (subst (λ (n : List ℕ). IsNameOf n c.args.container c.args.key.now.bytes) c.as_bytes.ensures (c.if-is_of.ensures.0 refl))
+    (subst (λ (n : List ℕ). IsNameOf n c.args.at.now.container c.args.at.now.key.bytes) c.as_bytes.ensures.value (c.if-is_of.ensures.0 refl))
     c.in_err-drop_name.ensures)
 
 pub loop-name-preserved : goal.loop-name-preserved
@@ -44,7 +44,7 @@ loop-name-preserved g c = elim c.if-is_of.branch [
     omega arith,
     goes _ _ _ c.loop-name.invariant.2 (gives _ _ _ (given _ c.in_ok-name.ensures c.in-Some.is) (sym c.if-not-is_before.ensures) (omega arith))
         (ap (below (c.in-Some.name)) (sym c.new-bound.ensures.value) ∙ sym c.if-not-is_before-2.ensures)
-        (subst (λ (n : List ℕ). IsNameOf n c.args.container c.args.key.now.bytes) c.as_bytes.ensures (w.if-is_of.ensures.0 refl))
+        (subst (λ (n : List ℕ). IsNameOf n c.args.at.now.container c.args.at.now.key.bytes) c.as_bytes.ensures.value (w.if-is_of.ensures.0 refl))
         w.in_ok-drop_name.ensures,
   )
   | else-is_of w ↦ rw (w.row-is, w.dropped-is) (
@@ -52,7 +52,7 @@ loop-name-preserved g c = elim c.if-is_of.branch [
     omega arith,
     passes _ _ _ c.loop-name.invariant.2 (gives _ _ _ (given _ c.in_ok-name.ensures c.in-Some.is) (sym c.if-not-is_before.ensures) (omega arith))
         (ap (below (c.in-Some.name)) (sym c.new-bound.ensures.value) ∙ sym c.if-not-is_before-2.ensures)
-        (λ is. true≢false (sym (w.if-is_of.ensures.1 (subst (λ (n : List ℕ). IsNameOf n c.args.container c.args.key.now.bytes) (sym c.as_bytes.ensures) is)))),
+        (λ is. true≢false (sym (w.if-is_of.ensures.1 (subst (λ (n : List ℕ). IsNameOf n c.args.at.now.container c.args.at.now.key.bytes) (sym c.as_bytes.ensures.value) is)))),
   )
 ]
 

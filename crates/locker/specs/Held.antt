@@ -4,6 +4,7 @@ use Rattle.refusal.specs.declared.Cause.{Cause}
 use Rattle.refusal.specs.declared.CloudFault.{CloudFault}
 use Rattle.refusal.specs.declared.Refusal.{Refusal}
 use Rattle.refusal.specs.Numbers.{refusal_fault}
+use Rattle.naming.specs.declared.address.Address.{Address}
 use Rattle.naming.specs.Stamps.{no_stamp}
 use Rattle.entry.specs.Entries.{EntryValue}
 use Rattle.cloud.specs.Meaning.{CloudMeaning}
@@ -43,6 +44,10 @@ module _ {D R K : Type 0} (meaning : D → DirectoryMeaning) (clouds : R → Lis
   -- A call asked the row, as `asked` says; where it was refused before, the row is as it was.
   abbrev pub Asked : Locker D R K → Call → Type 0 → Locker D R K → Type 0
   Asked old c asked new = by_ground (first_ground (setting_of digested old.limits) c (state_of old)) asked (new.row ≡ old.row)
+
+-- the container and the key of an address
+abbrev pub address_parts : Address → ℕ × List ℕ
+address_parts at = (at.container, at.key.bytes)
 
 -- a slot with this fetch, or idle
 abbrev pub fetch_slot : Option Fetching → SlotValue

@@ -6,6 +6,7 @@ ghost use Rattle.naming.specs.Text.{valid_key};
 ghost use Rattle.cloud.specs.Meaning.{longest_value};
 ghost use Rattle.protocol.specs.Steps.{or_refused};
 ghost use Rattle.slots.specs.Values.{answered, when};
+ghost use Rattle.locker.specs.Held.{address_parts};
 
 use entry::live::LONGEST_VALUE;
 use naming::address::Address;
@@ -15,7 +16,7 @@ use slots::limits::Limits;
 
 /// The address of these bytes in the container, where they are a key.
 pub(crate) fn valid_address(container: u8, key: &[u8]) -> Result<Address, Refusal>
-    ensures { answered (λ at. (at.container, at.key.bytes)) result ≡ or_refused (when (not (valid_key key.now)) InvalidKey) (container, key.now) }
+    ensures { answered address_parts result ≡ or_refused (when (not (valid_key key.now)) InvalidKey) (container, key.now) }
 {
     let key = Key::new(key).ok_or(Refusal::InvalidKey)?;
     Ok(Address { container, key })

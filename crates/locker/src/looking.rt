@@ -48,6 +48,14 @@ pub(crate) fn fetch_of<D: Directory>(directory: &mut D, at: Address) -> Option<F
     })
 }
 
+/// The key's entry, which must be there.
+pub(crate) fn entry_at<D: Directory>(directory: &mut D, at: &Address) -> Result<Entry, Refusal>
+    ensures value { let entry = entry_of (D.meaning directory.old) at.now.container at.now.key.bytes in answered entry_value result ≡ or_refused (when (not (is_there entry)) NoEntry) (entry_or_none entry) }
+    ensures same { D.meaning directory.new ≡ D.meaning directory.old }
+{
+    directory.look(at).ok_or(Refusal::NoEntry)
+}
+
 /// The key's entry, which must have a value.
 pub(crate) fn live_entry<D: Directory>(
     directory: &mut D,
@@ -56,7 +64,7 @@ pub(crate) fn live_entry<D: Directory>(
     ensures value { let entry = entry_of (D.meaning directory.old) at.now.container at.now.key.bytes in answered entry_value result ≡ or_refused (when (not (is_there (live_of entry))) NoEntry) (entry_or_none entry) }
     ensures same { D.meaning directory.new ≡ D.meaning directory.old }
 {
-    let entry = directory.look(at).ok_or(Refusal::NoEntry)?;
+    let entry = entry_at(directory, at)?;
     if entry.live().is_none() {
         return Err(Refusal::NoEntry);
     }

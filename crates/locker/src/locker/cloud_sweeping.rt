@@ -9,6 +9,7 @@ ghost use Rattle.locker.specs.Held.{Stepped, SteppedAlone, Asked, swept_said};
 
 use super::Locker;
 use crate::checks::{check_cloud, valid_address};
+use crate::looking::entry_at;
 use digest::kind::DigestKind;
 use directory::interface::Directory;
 use naming::stamp::Stamp;
@@ -26,13 +27,10 @@ impl<D: Directory, R: Row, K: DigestKind> Locker<D, R, K> {
         let party = Party::try_from(party)?;
         let at = valid_address(container, key)?;
         self.slots.check_idle(party)?;
-        let entry = self.directory.look(&at).ok_or(Refusal::NoEntry)?;
-        let sweeping = Sweeping {
-            at,
-            stamp: entry.stamp(),
-        };
-        self.slots.turn(party, Doing::Sweeping(sweeping));
-        Ok(sweeping.stamp)
+        let stamp = entry_at(&mut self.directory, &at)?.stamp();
+        self.slots
+            .turn(party, Doing::Sweeping(Sweeping { at, stamp }));
+        Ok(stamp)
     }
 
     /// Drops the names of the key's older writes that the cloud lists, and answers how many drops it acknowledged.

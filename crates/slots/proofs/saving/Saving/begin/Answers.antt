@@ -1,4 +1,3 @@
-use Rattle.std.proofs.Common.{rules}
 use Rattle.slots.proofs.Digests.{kind_fits}
 use Rattle.slots.proofs.saving.Saving.begin.Goals as goal
 

@@ -12,14 +12,6 @@ use Rattle.locker.proofs.Grounds.{known_party}
 use Rattle.locker.proofs.Storing.{done_by, kept_by, fault_is, store_judged, store_allowed, one_more, store_refused, store_failed, store_done}
 use Rattle.locker.proofs.locker.Locker.store.Goals as goal
 
-pub returns-in_err-saving : goal.returns-in_err-saving
-returns-in_err-saving g c =
-    let S : Setting = setting_of g.K.DigestKind.digested c.args.self.now.limits in
-    let s : State = state_of g.D.Directory.meaning g.R.Row.clouds g.K.DigestKind.digested c.args.self.now in
-    let e = c.in_err-saving.field-0.0 in
-    let judged = store_judged S s c.args.party c.in_ok-party.party c.args.cloud c.args.value.now _ c.in_ok-party.ensures c.in_ok-check_value.ensures c.in_ok-check_cloud.ensures e c.in_err-saving.ensures in
-    record { call = record { step = store_refused S s c.args.party c.args.cloud c.args.value.now _ e judged (search rules); limits = refl }; row = kept_by _ _ _ _ judged refl }
-
 pub returns-in_err-put_at : goal.returns-in_err-put_at
 returns-in_err-put_at g c =
     let S : Setting = setting_of g.K.DigestKind.digested c.args.self.now.limits in

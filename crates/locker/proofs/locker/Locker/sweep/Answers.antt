@@ -46,10 +46,3 @@ returns g c =
     let meant = subst (λ (x : SweepingValue). Swept (next_at i) (drop_at i) x (g.R.Row.clouds row) (g.R.Row.clouds row') (Ok k)) there.1 met.meaning in
     record { call = record { step = sweep_ends S s p i (g.R.Row.clouds row') (Ok k) (Ok k) there.0 meant refl; limits = refl }; row = done_by _ _ _ there.0 chain }
 
-pub returns-in_err-sweeping : goal.returns-in_err-sweeping
-returns-in_err-sweeping g c =
-    let S : Setting = setting_of g.K.DigestKind.digested c.args.self.now.limits in
-    let s : State = state_of g.D.Directory.meaning g.R.Row.clouds g.K.DigestKind.digested c.args.self.now in
-    let e = c.in_err-sweeping.field-0.0 in
-    let ground = sweep_judged S s c.args.party c.in_ok-party.party c.args.cloud e _ c.in_ok-party.ensures c.in_ok-check_cloud.ensures c.in_err-sweeping.ensures in
-    record { call = record { step = sweep_refused S s c.args.party c.args.cloud _ e ground (search rules); limits = refl }; row = kept_by _ _ _ _ ground refl }

@@ -9,14 +9,6 @@ use Rattle.locker.proofs.Storing.{kept_by}
 use Rattle.locker.proofs.Trying.{try_judged, try_allowed, try_refused, TryEnd, Ends, try_failed, try_done}
 use Rattle.locker.proofs.locker.Locker.try_cloud.Goals as goal
 
-pub returns-in_err-fetching : goal.returns-in_err-fetching
-returns-in_err-fetching g c =
-    let S : Setting = setting_of g.K.DigestKind.digested c.args.self.now.limits in
-    let s : State = state_of g.D.Directory.meaning g.R.Row.clouds g.K.DigestKind.digested c.args.self.now in
-    let e = c.in_err-fetching.field-0.0 in
-    let ground = try_judged S s c.args.party c.in_ok-party.party c.args.cloud c.args.buffer.now c.in_ok-party.ensures c.in_ok-check_cloud.ensures e _ c.in_err-fetching.ensures in
-    record { call = record { step = try_refused S s c.args.party c.args.cloud c.args.buffer.now _ e ground (search rules); limits = refl }; row = kept_by _ _ _ _ ground refl }
-
 pub returns-in_err-size : goal.returns-in_err-size
 returns-in_err-size g c =
     let S : Setting = setting_of g.K.DigestKind.digested c.args.self.now.limits in

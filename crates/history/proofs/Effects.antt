@@ -1,5 +1,5 @@
 -- What a step does to the state, by what came of the call: the little that the promises rest on.
-use Rattle.std.proofs.Common.{◌≡◌, ℕ, ◌<◌, Bool, true, false, cond, not, List, length, get_or, Some, None, Option, refl, ap, ◌∙◌, arith}
+use Rattle.std.proofs.Common.{◌≡◌, ℕ, ◌<◌, Bool, true, false, cond, not, List, length, get_or, Some, None, Ok, Err, Option, refl, ap, ◌∙◌, arith}
 use Rattle.bytemap.specs.Map.{find, insert}
 use Rattle.naming.specs.Stamps.{StampValue, stamp_below, next_stamp}
 use Rattle.naming.specs.Names.{name_of}
@@ -7,10 +7,9 @@ use Rattle.naming.proofs.Stamps.{below_next_stamp}
 use Rattle.entry.specs.Entries.{EntryValue, LiveValue}
 use Rattle.cloud.specs.Meaning.{CloudMeaning}
 use Rattle.row.specs.Rows.{no_cloud}
-use Rattle.directory.specs.declared.interface.CommitAnswer.{CommitAnswer}
-use Rattle.directory.specs.declared.interface.CommitAnswer.TheVariants.{Committed as Set, Older, Full}
+use Rattle.directory.specs.declared.interface.CommitError.TheVariants.{Older, Full}
 use Rattle.directory.specs.Meaning.{DirectoryMeaning, address}
-use Rattle.directory.specs.Calls.{entry_of, stamp_of, commit_answer, commit_after, when_committed, place_answer}
+use Rattle.directory.specs.Calls.{Answer, entry_of, stamp_of, commit_answer, commit_after, when_committed, place_answer}
 use Rattle.protocol.specs.declared.answers.CommitOutcome.TheVariants.{Committed, Passed}
 use Rattle.entry.specs.Clouds.{count}
 use Rattle.protocol.specs.Slots.{SlotValue, SavingValue, FetchingValue, SweepingValue, idle, saving, fetching, sweeping}
@@ -76,34 +75,34 @@ live_entry (Some e) l h = (e, refl, h)
 
 -- ---- commits
 
-committed_below : (b : Bool) (a : CommitAnswer) → cond b a Older ≡ Set → b ≡ true
+committed_below : (b : Bool) (a : Answer) → cond b a (Err Older) ≡ Ok tt → b ≡ true
 committed_below true a h = refl
 committed_below false a h = absurd (grind arith)
 
-pub set_is_below : (m : DirectoryMeaning) (c : ℕ) (k : List ℕ) (e : EntryValue) → commit_answer m c k e ≡ Set → stamp_below (stamp_of (entry_of m c k)) e.stamp ≡ true
+pub set_is_below : (m : DirectoryMeaning) (c : ℕ) (k : List ℕ) (e : EntryValue) → commit_answer m c k e ≡ Ok tt → stamp_below (stamp_of (entry_of m c k)) e.stamp ≡ true
 unfolding commit_answer
 set_is_below m c k e h = committed_below (stamp_below (stamp_of (entry_of m c k)) e.stamp) (place_answer (entry_of m c k) m.free) h
 
-pub set_entries : (m : DirectoryMeaning) (c : ℕ) (k : List ℕ) (e : EntryValue) → commit_answer m c k e ≡ Set → (commit_after m c k e).entries ≡ insert m.entries (address c k) e
+pub set_entries : (m : DirectoryMeaning) (c : ℕ) (k : List ℕ) (e : EntryValue) → commit_answer m c k e ≡ Ok tt → (commit_after m c k e).entries ≡ insert m.entries (address c k) e
 unfolding commit_after
-set_entries m c k e h = ap (λ (a : CommitAnswer). (when_committed a m c k e).entries) h
+set_entries m c k e h = ap (λ (a : Answer). (when_committed a m c k e).entries) h
 
-not_set_same : (m : DirectoryMeaning) (c : ℕ) (k : List ℕ) (e : EntryValue) (a : CommitAnswer) → commit_outcome a ≡ Passed → when_committed a m c k e ≡ m
-not_set_same m c k e Set h = absurd (grind arith)
-not_set_same m c k e Older h = refl
-not_set_same m c k e Full h = refl
+not_set_same : (m : DirectoryMeaning) (c : ℕ) (k : List ℕ) (e : EntryValue) (a : Answer) → commit_outcome a ≡ Passed → when_committed a m c k e ≡ m
+not_set_same m c k e (Ok t) h = absurd (grind arith)
+not_set_same m c k e (Err Older) h = refl
+not_set_same m c k e (Err Full) h = refl
 
 pub passed_same : (m : DirectoryMeaning) (c : ℕ) (k : List ℕ) (e : EntryValue) → commit_outcome (commit_answer m c k e) ≡ Passed → commit_after m c k e ≡ m
 unfolding commit_after
 passed_same m c k e h = not_set_same m c k e (commit_answer m c k e) h
 
-pub outcome_set : (a : CommitAnswer) → commit_outcome a ≡ Committed → a ≡ Set
-outcome_set Set h = refl
-outcome_set Older h = absurd (grind arith)
-outcome_set Full h = absurd (grind arith)
+pub outcome_set : (a : Answer) → commit_outcome a ≡ Committed → a ≡ Ok tt
+outcome_set (Ok t) h = refl
+outcome_set (Err Older) h = absurd (grind arith)
+outcome_set (Err Full) h = absurd (grind arith)
 
 -- an entry that stands gives way to the next stamp
-pub next_is_set : (m : DirectoryMeaning) (c : ℕ) (k : List ℕ) (e : EntryValue) (p : ℕ) (x : EntryValue) → entry_of m c k ≡ Some x → e.stamp ≡ next_stamp (stamp_of (entry_of m c k)) p → commit_answer m c k e ≡ Set
+pub next_is_set : (m : DirectoryMeaning) (c : ℕ) (k : List ℕ) (e : EntryValue) (p : ℕ) (x : EntryValue) → entry_of m c k ≡ Some x → e.stamp ≡ next_stamp (stamp_of (entry_of m c k)) p → commit_answer m c k e ≡ Ok tt
 unfolding commit_answer
 next_is_set m c k e p x is next =
     let low : stamp_below (stamp_of (entry_of m c k)) e.stamp ≡ true = ap (λ (t : StampValue). stamp_below (stamp_of (entry_of m c k)) t) next ∙ below_next_stamp (stamp_of (entry_of m c k)) p in

@@ -16,10 +16,8 @@ use Rattle.entry.specs.Entries.{EntryValue, LiveValue}
 use Rattle.cloud.specs.Meaning.{CloudMeaning}
 use Rattle.cloud.specs.Outcomes.{Done, Length, PutOutcome, put_after, when_put}
 use Rattle.row.specs.Rows.{no_cloud, Called}
-use Rattle.directory.specs.declared.interface.CommitAnswer.{CommitAnswer}
-use Rattle.directory.specs.declared.interface.CommitAnswer.TheVariants.{Committed as Set}
 use Rattle.directory.specs.Meaning.{DirectoryMeaning}
-use Rattle.directory.specs.Calls.{entry_of, stamp_of, commit_answer, commit_after}
+use Rattle.directory.specs.Calls.{Answer, entry_of, stamp_of, commit_answer, commit_after}
 use Rattle.protocol.specs.declared.answers.CommitOutcome.{CommitOutcome}
 use Rattle.protocol.specs.declared.answers.CommitOutcome.TheVariants.{Committed, Passed}
 use Rattle.entry.specs.Clouds.{count}
@@ -27,7 +25,8 @@ use Rattle.protocol.specs.Slots.{SlotValue, SavingValue, FetchingValue, idle, sa
 use Rattle.protocol.specs.State.{Setting, State, valid_party, slot_of, with_slot, with_clouds, with_directory}
 use Rattle.protocol.specs.Calls.{Call, begin_save, store, commit, delete, begin_fetch, try_cloud, look_again, begin_sweep, sweep, leave}
 use Rattle.protocol.specs.Grounds.{Ground, first_ground, first_of, caller_grounds, slot_grounds, directory_grounds, buffer_grounds, live_of, has_no_live, saved_entry, is_begun_value}
-use Rattle.protocol.specs.Events.{Event, FoundValue, began_save, stored, committed, deleted, began_fetch, tried, looked_again, began_sweep, swept, left, listed}
+use Rattle.protocol.specs.declared.answers.Found.{Found}
+use Rattle.protocol.specs.Events.{Event, began_save, stored, committed, deleted, began_fetch, tried, looked_again, began_sweep, swept, left, listed}
 use Rattle.protocol.specs.Steps.{Step, Does, Asks, Stores, Tries, Sweeps, or_refused, or_kept, saving_of, fetching_of, sweeping_of, begun, new_stamp, deleted_entry, after_commit, after_delete, after_look, commit_outcome, found_entry, fetch_of, store_answer, after_store, try_answer, part_after, after_try, is_saved_value}
 use Rattle.history.specs.Deeds.{Deed, deed, nothing}
 use Rattle.history.proofs.Clouds.{Keeps, KeepsOne, AnyName, OtherThan, called_keeps, put_keeps, put_holds, get_keeps, swept_keeps}
@@ -111,7 +110,7 @@ module _ (S : Setting) (s : State) where
     x : SavingValue
     x = saving_of (slot_of s p)
 
-    answer : CommitAnswer
+    answer : Answer
     answer = commit_answer s.directory x.container x.key (saved_entry x)
 
     n : (first_ground S (commit p) s ≡ None) × (a ≡ commit_outcome answer)
@@ -134,7 +133,7 @@ module _ (S : Setting) (s : State) where
 
     by : (b : CommitOutcome) → b ≡ commit_outcome answer → Effect S s (deed (committed p (Ok b))) s'
     by Committed h =
-        let set : answer ≡ Set = outcome_set answer (sym h) in
+        let set : answer ≡ Ok tt = outcome_set answer (sym h) in
         at _ _ s' e (committed_one p x (commit_after s.directory x.container x.key (saved_entry x)) party (saving_is (slot_of s p) ready) enough
         (set_is_below s.directory x.container x.key (saved_entry x) set) (set_entries s.directory x.container x.key (saved_entry x) set))
     by Passed h =
@@ -159,7 +158,7 @@ module _ (S : Setting) (s : State) where
   fetch_is : (c : ℕ) (k : List ℕ) (o : Option EntryValue) (e : EntryValue) (l : LiveValue) → o ≡ Some e → e.live ≡ Some l → fetch_of c k (stamp_of o) (live_of o) ≡ fetch c k e.stamp l
   fetch_is c k o e l is live = ap (λ (x : Option EntryValue). fetch_of c k (stamp_of x) (live_of x)) is ∙ ap (λ (x : Option LiveValue). fetch_of c k e.stamp x) live
 
-  fetch_effect : (p c : ℕ) (k : List ℕ) (r : Result FoundValue Refusal) (s' : State) → Step S s (began_fetch p c k r) s' → Effect S s (deed (began_fetch p c k r)) s'
+  fetch_effect : (p c : ℕ) (k : List ℕ) (r : Result Found Refusal) (s' : State) → Step S s (began_fetch p c k r) s' → Effect S s (deed (began_fetch p c k r)) s'
   fetch_effect p c k (Err e) s' d = still _ _ _ s' e d
   fetch_effect p c k (Ok a) s' d =
       let o : Option EntryValue = entry_of s.directory c k in
@@ -267,7 +266,7 @@ module _ (S : Setting) (s : State) where
 
   -- ---- look-again
 
-  again_effect : (p : ℕ) (r : Result FoundValue Refusal) (s' : State) → Step S s (looked_again p r) s' → Effect S s (deed (looked_again p r)) s'
+  again_effect : (p : ℕ) (r : Result Found Refusal) (s' : State) → Step S s (looked_again p r) s' → Effect S s (deed (looked_again p r)) s'
   again_effect p r s' d = by r d.0 (first_of (caller_grounds ++ slot_grounds) S (look_again p) s) refl where
     y : SlotValue
     y = slot_of s p
@@ -294,7 +293,7 @@ module _ (S : Setting) (s : State) where
     late_is : late ≡ cond (of_fetching y (λ z. has_no_live s z.container z.key)) (Some NoEntry) None
     late_is = refl
 
-    by : (q : Result FoundValue Refusal) → q ≡ or_refused (first_ground S (look_again p) s) (found_entry o) → (g : Option Refusal) → early ≡ g → Effect S s (deed (looked_again p q)) s'
+    by : (q : Result Found Refusal) → q ≡ or_refused (first_ground S (look_again p) s) (found_entry o) → (g : Option Refusal) → early ≡ g → Effect S s (deed (looked_again p q)) s'
     by (Ok a) h (Some e) is =
         let h' : Ok a ≡ or_refused (Some e) (found_entry o) = h ∙ ap (λ (q : Option Refusal). or_refused q (found_entry o)) (split ∙ ap (λ (q : Option Refusal). then_first q late) is) in
         absurd (grind arith)

@@ -1,26 +1,24 @@
 -- A store as a step.
-use Rattle.std.proofs.Common.{◌≡◌, ℕ, ◌-◌, ◌≤◌, Bool, true, cond, not, ltb, leb, List, length, get_or, set, Some, None, Ok, Err, Option, Result, sym, refl, ap, ◌∙◌, subst, arith}
+use Rattle.std.proofs.Common.{◌≡◌, ℕ, ◌-◌, ◌≤◌, Bool, true, cond, not, ltb, leb, List, length, set, Some, None, Ok, Err, Option, Result, sym, refl, ap, ◌∙◌, subst, arith}
 use Rattle.std.proofs.lemmas.Bool.{lt-ltb, leb-false}
 use Rattle.refusal.specs.declared.Cause.TheVariants.{Silent}
 use Rattle.refusal.specs.declared.CloudFault.{CloudFault}
 use Rattle.refusal.specs.declared.Refusal.{Refusal}
 use Rattle.refusal.specs.declared.Refusal.TheVariants.{UnknownParty, ValueTooLong, UnknownCloud, SlotNotReady, CloudRefused}
-use Rattle.naming.specs.Names.{name_of}
 use Rattle.cloud.specs.Meaning.{CloudMeaning, longest_value}
 use Rattle.cloud.specs.Outcomes.{Done, PutOutcome}
 use Rattle.row.specs.Rows.{Called, numbered}
 use Rattle.entry.specs.Clouds.{count, with_cloud}
 use Rattle.protocol.specs.Slots.{SlotValue, SavingValue, idle, saving, is_saving, of_saving}
-use Rattle.protocol.specs.State.{Setting, State, valid_party, slot_of, with_clouds}
+use Rattle.protocol.specs.State.{Setting, State, valid_party, slot_at, slot_of, with_clouds}
 use Rattle.protocol.specs.Calls.{store}
 use Rattle.protocol.specs.Events.{stored}
 use Rattle.protocol.specs.Grounds.{first_ground, is_begun_value}
-use Rattle.protocol.specs.Steps.{or_refused, saving_of, acknowledged, Step}
-use Rattle.slots.specs.declared.slot.Asked.TheVariants.{Store}
-use Rattle.slots.specs.Values.{when, digesting}
-use Rattle.slots.specs.Asked.{slot_ground}
+use Rattle.protocol.specs.Steps.{or_refused, save_name, saving_of, acknowledged, Step}
+use Rattle.slots.specs.Values.{when}
+use Rattle.slots.specs.Grounds.{store_ground}
 use Rattle.locker.specs.Held.{by_ground}
-use Rattle.locker.proofs.Grounds.{refusing, allowing, passed, known_party, store_ground}
+use Rattle.locker.proofs.Grounds.{refusing, allowing, passed, known_party, store_by_slot}
 
 -- ---- the row's clause
 
@@ -40,28 +38,24 @@ fault_is i (Err e) fault h =
 
 -- ---- the checks before
 
-module _ (S : Setting) (s : State) (p n i : ℕ) (v : List ℕ) (begun : Bool)
+module _ (S : Setting) (s : State) (p n i : ℕ) (v : List ℕ) (x : SavingValue)
     (party : Ok n ≡ or_refused (when (not (valid_party p)) UnknownParty) p)
     (short : Ok (tt {0}) ≡ or_refused (when (ltb longest_value (length v)) ValueTooLong) (tt {0}))
-    (there : Ok (tt {0}) ≡ or_refused (when (leb S.clouds i) UnknownCloud) (tt {0}))
-    (is : begun ≡ of_saving (get_or s.slots (n - 1) idle) (is_begun_value (digesting S.digested) v)) where
-  ground_is : first_ground S (store n i v) s ≡ slot_ground S.faults (slot_of s n) (Store i begun)
+    (there : Ok (tt {0}) ≡ or_refused (when (leb S.clouds i) UnknownCloud) (tt {0})) where
+  ground_is : first_ground S (store n i v) s ≡ store_ground S (slot_of s n) i v
   ground_is =
-      store_ground S s n i v begun (known_party p n party).0 (passed (ltb longest_value (length v)) ValueTooLong (tt {0}) (tt {0}) short).0 (passed (leb S.clouds i) UnknownCloud (tt {0}) (tt {0}) there).0 is
+      store_by_slot S s n i v (known_party p n party).0 (passed (ltb longest_value (length v)) ValueTooLong (tt {0}) (tt {0}) short).0 (passed (leb S.clouds i) UnknownCloud (tt {0}) (tt {0}) there).0
 
-  pub store_judged : (e : Refusal) → Err e ≡ or_refused (slot_ground S.faults (get_or s.slots (n - 1) idle) (Store i begun)) (tt {0}) → first_ground S (store p i v) s ≡ Some e
+  pub store_judged : (e : Refusal) → Err e ≡ or_refused (store_ground S (slot_at s.slots n) i v) x → first_ground S (store p i v) s ≡ Some e
   store_judged e judged =
-      subst (λ (k : ℕ). first_ground S (store k i v) s ≡ Some e) (known_party p n party).1 (ground_is ∙ refusing (slot_ground S.faults (slot_of s n) (Store i begun)) e (tt {0}) judged)
+      subst (λ (k : ℕ). first_ground S (store k i v) s ≡ Some e) (known_party p n party).1 (ground_is ∙ refusing (store_ground S (slot_of s n) i v) e x judged)
 
-  pub store_allowed : Ok (tt {0}) ≡ or_refused (slot_ground S.faults (get_or s.slots (n - 1) idle) (Store i begun)) (tt {0}) → first_ground S (store p i v) s ≡ None
+  -- it is allowed, and this is the save that the slot has
+  pub store_allowed : Ok x ≡ or_refused (store_ground S (slot_at s.slots n) i v) (saving_of (slot_at s.slots n)) → (first_ground S (store p i v) s ≡ None) × (x ≡ saving_of (slot_of s p))
   store_allowed judged =
-      subst (λ (k : ℕ). first_ground S (store k i v) s ≡ None) (known_party p n party).1 (ground_is ∙ (allowing (slot_ground S.faults (slot_of s n) (Store i begun)) (tt {0}) (tt {0}) judged).0)
-
--- the save that the slot has
-pub save_there : (s : State) (p n : ℕ) (x : SavingValue) → n ≡ p
-    → Ok x ≡ or_refused (when (not (is_saving (get_or s.slots (n - 1) idle))) SlotNotReady) (saving_of (get_or s.slots (n - 1) idle)) → x ≡ saving_of (slot_of s p)
-save_there s p n x same there =
-    (passed (not (is_saving (slot_of s n))) SlotNotReady x (saving_of (slot_of s n)) there).1 ∙ ap (λ (k : ℕ). saving_of (slot_of s k)) same
+      let is = allowing (store_ground S (slot_of s n) i v) x (saving_of (slot_of s n)) judged in
+      let known = known_party p n party in
+      (subst (λ (k : ℕ). first_ground S (store k i v) s ≡ None) known.1 (ground_is ∙ is.0), is.1 ∙ ap (λ (k : ℕ). saving_of (slot_of s k)) known.1)
 
 -- a cloud of a row is one of seven, so that it can be marked
 pub one_more : (x y : SavingValue) (i clouds : ℕ) → clouds ≤ 7 → Ok (tt {0}) ≡ or_refused (when (leb clouds i) UnknownCloud) (tt {0}) → x ≡ y
@@ -79,7 +73,7 @@ store_refused S s p i v r e g h = rw g (h, refl)
 module _ (S : Setting) (s : State) (p i : ℕ) (v : List ℕ) (ms' : List CloudMeaning) (ground : first_ground S (store p i v) s ≡ None) where
   abbrev pub CalledWith : Done → Type 0
   CalledWith said =
-      Called s.clouds i ms' (λ m m'. PutOutcome m (name_of (saving_of (slot_of s p)).container (saving_of (slot_of s p)).key (saving_of (slot_of s p)).stamp) v said m') (said ≡ Err Silent)
+      Called s.clouds i ms' (λ m m'. PutOutcome m (save_name (saving_of (slot_of s p))) v said m') (said ≡ Err Silent)
 
   pub store_failed : (r : Result ℕ Refusal) (fault : CloudFault) → fault.cloud ≡ i → r ≡ Err (CloudRefused fault) → CalledWith (Err fault.cause) → Step S s (stored p i v r) (with_clouds s ms')
   store_failed r fault at h called =

@@ -1,24 +1,33 @@
 -- A sweep as a step.
-use Rattle.std.proofs.Common.{◌≡◌, ℕ, ◌-◌, not, leb, List, get_or, Some, None, Ok, Err, Result, refl, ap, ◌∙◌, subst}
+use Rattle.std.proofs.Common.{◌≡◌, ℕ, ◌-◌, not, leb, List, Some, None, Ok, Err, Result, refl, ap, ◌∙◌, subst}
 use Rattle.refusal.specs.declared.Cause.{Cause}
 use Rattle.refusal.specs.declared.CloudFault.{CloudFault}
 use Rattle.refusal.specs.declared.Refusal.{Refusal}
 use Rattle.refusal.specs.declared.Refusal.TheVariants.{UnknownParty, UnknownCloud, SlotNotReady, CloudRefused}
 use Rattle.cloud.specs.Meaning.{CloudMeaning}
 use Rattle.protocol.specs.Slots.{SweepingValue, idle, is_sweeping}
-use Rattle.protocol.specs.State.{Setting, State, valid_party, slot_of, with_clouds}
+use Rattle.protocol.specs.State.{Setting, State, valid_party, slot_at, slot_of, with_clouds}
 use Rattle.protocol.specs.Calls.{sweep}
 use Rattle.protocol.specs.Events.{swept}
 use Rattle.protocol.specs.Grounds.{first_ground}
 use Rattle.protocol.specs.Sweeping.{Swept}
 use Rattle.protocol.specs.Steps.{or_refused, sweeping_of, next_at, drop_at, sweep_answer, Step}
 use Rattle.slots.specs.Values.{when}
-use Rattle.locker.proofs.Grounds.{passed, known_party}
+use Rattle.locker.proofs.Grounds.{passed, failed, known_party}
+
+pub sweep_judged : (S : Setting) (s : State) (p n i : ℕ) (e : Refusal) (x : SweepingValue)
+    → Ok n ≡ or_refused (when (not (valid_party p)) UnknownParty) p → Ok (tt {0}) ≡ or_refused (when (leb S.clouds i) UnknownCloud) (tt {0})
+    → Err e ≡ or_refused (when (not (is_sweeping (slot_at s.slots n))) SlotNotReady) x → first_ground S (sweep p i) s ≡ Some e
+sweep_judged S s p n i e x party there h =
+    let known = known_party p n party in
+    let cloud = passed (leb S.clouds i) UnknownCloud (tt {0}) (tt {0}) there in
+    let f = failed (not (is_sweeping (slot_of s n))) SlotNotReady e x h in
+    subst (λ (k : ℕ). first_ground S (sweep k i) s ≡ Some e) known.1 (rw (known.0, cloud.0, f.0, f.1) refl)
 
 -- the sweep that the slot has; then no ground is left
 pub sweep_there : (S : Setting) (s : State) (p n i : ℕ) (x : SweepingValue)
     → Ok n ≡ or_refused (when (not (valid_party p)) UnknownParty) p → Ok (tt {0}) ≡ or_refused (when (leb S.clouds i) UnknownCloud) (tt {0})
-    → Ok x ≡ or_refused (when (not (is_sweeping (get_or s.slots (n - 1) idle))) SlotNotReady) (sweeping_of (get_or s.slots (n - 1) idle))
+    → Ok x ≡ or_refused (when (not (is_sweeping (slot_at s.slots n))) SlotNotReady) (sweeping_of (slot_at s.slots n))
     → (first_ground S (sweep p i) s ≡ None) × (x ≡ sweeping_of (slot_of s p))
 sweep_there S s p n i x party there found =
     let known = known_party p n party in

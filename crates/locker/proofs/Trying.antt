@@ -1,24 +1,22 @@
 -- A try as a step.
-use Rattle.std.proofs.Common.{◌≡◌, ℕ, ◌-◌, Bool, true, false, cond, not, ◌||◌, ltb, leb, List, length, get_or, take, set, Some, None, Ok, Err, Option, Result, sym, refl, ap, ◌∙◌, subst, ⊎_elim, arith}
+use Rattle.std.proofs.Common.{◌≡◌, ℕ, ◌-◌, Bool, true, false, cond, not, ◌||◌, ltb, leb, List, length, take, set, Some, None, Ok, Err, Option, Result, sym, refl, ap, ◌∙◌, subst, ⊎_elim, arith}
 use Rattle.std.proofs.lemmas.Bool.{cases_Bool}
 use Rattle.refusal.specs.declared.Cause.TheVariants.{Silent}
 use Rattle.refusal.specs.declared.Refusal.{Refusal}
 use Rattle.refusal.specs.declared.Refusal.TheVariants.{UnknownParty, UnknownCloud, SlotNotReady, CloudNotListed, BufferTooShort, ValueMismatch}
-use Rattle.naming.specs.Names.{name_of}
 use Rattle.entry.specs.Clouds.{lists}
 use Rattle.cloud.specs.Meaning.{CloudMeaning}
 use Rattle.cloud.specs.Outcomes.{Length, GetOutcome}
 use Rattle.row.specs.Rows.{Called, If}
 use Rattle.directory.specs.Meaning.{DirectoryMeaning}
 use Rattle.protocol.specs.Slots.{SlotValue, FetchingValue, idle, saving, fetching, sweeping, is_fetching, of_fetching}
-use Rattle.protocol.specs.State.{Setting, State, valid_party, slot_of, with_slot, with_clouds}
+use Rattle.protocol.specs.State.{Setting, State, valid_party, slot_at, slot_of, with_slot, with_clouds}
 use Rattle.protocol.specs.Calls.{try_cloud}
 use Rattle.protocol.specs.Events.{tried}
 use Rattle.protocol.specs.Grounds.{first_ground}
-use Rattle.protocol.specs.Steps.{or_refused, fetching_of, is_saved_value, try_answer, after_try, Step}
-use Rattle.slots.specs.declared.slot.Asked.TheVariants.{Try}
+use Rattle.protocol.specs.Steps.{or_refused, fetch_name, fetching_of, is_saved_value, try_answer, after_try, Step}
 use Rattle.slots.specs.Values.{when}
-use Rattle.slots.specs.Asked.{slot_ground}
+use Rattle.slots.specs.Grounds.{try_ground}
 use Rattle.trying.specs.Tried.{Tried}
 use Rattle.locker.specs.Held.{by_ground}
 use Rattle.locker.proofs.Grounds.{refusing, allowing, passed, known_party, or_first, two}
@@ -32,39 +30,36 @@ room_ground slot b = cond (of_fetching slot (λ x. ltb (length b) x.live.size) |
 module _ (S : Setting) (s : State) (p n i : ℕ) (b : List ℕ)
     (party : Ok n ≡ or_refused (when (not (valid_party p)) UnknownParty) p)
     (there : Ok (tt {0}) ≡ or_refused (when (leb S.clouds i) UnknownCloud) (tt {0})) where
-  ground_is : first_ground S (try_cloud n i b) s ≡ or_first (slot_ground S.faults (slot_of s n) (Try i)) (room_ground (slot_of s n) b)
+  ground_is : first_ground S (try_cloud n i b) s ≡ or_first (try_ground (slot_of s n) i) (room_ground (slot_of s n) b)
   ground_is =
       rw ((known_party p n party).0, (passed (leb S.clouds i) UnknownCloud (tt {0}) (tt {0}) there).0)
       (two (not (is_fetching (slot_of s n))) (of_fetching (slot_of s n) (λ x. not (lists x.live.clouds i))) SlotNotReady CloudNotListed (room_ground (slot_of s n) b))
 
-  pub try_judged : (e : Refusal) → Err e ≡ or_refused (slot_ground S.faults (get_or s.slots (n - 1) idle) (Try i)) (tt {0}) → first_ground S (try_cloud p i b) s ≡ Some e
-  try_judged e judged =
+  pub try_judged : (e : Refusal) (x : FetchingValue) → Err e ≡ or_refused (try_ground (slot_at s.slots n) i) x → first_ground S (try_cloud p i b) s ≡ Some e
+  try_judged e x judged =
       subst (λ (k : ℕ). first_ground S (try_cloud k i b) s ≡ Some e) (known_party p n party).1
-      (ground_is ∙ ap (λ o. or_first o (room_ground (slot_of s n) b)) (refusing (slot_ground S.faults (slot_of s n) (Try i)) e (tt {0}) judged))
+      (ground_is ∙ ap (λ o. or_first o (room_ground (slot_of s n) b)) (refusing (try_ground (slot_of s n) i) e x judged))
 
-  pub try_allowed : Ok (tt {0}) ≡ or_refused (slot_ground S.faults (get_or s.slots (n - 1) idle) (Try i)) (tt {0}) → not (is_fetching (slot_of s n)) ≡ false
-      → first_ground S (try_cloud p i b) s ≡ cond (ltb (length b) (fetching_of (slot_of s p)).live.size) (Some BufferTooShort) None
-  try_allowed judged is =
-      subst (λ (k : ℕ). first_ground S (try_cloud k i b) s ≡ cond (ltb (length b) (fetching_of (slot_of s k)).live.size) (Some BufferTooShort) None) (known_party p n party).1
-      (ground_is ∙ ap (λ o. or_first o (room_ground (slot_of s n) b)) (allowing (slot_ground S.faults (slot_of s n) (Try i)) (tt {0}) (tt {0}) judged).0 ∙ room (slot_of s n) is)
+  -- only the buffer can be too short, and this is the fetch that the slot has
+  pub try_allowed : (x : FetchingValue) → Ok x ≡ or_refused (try_ground (slot_at s.slots n) i) (fetching_of (slot_at s.slots n))
+      → (first_ground S (try_cloud p i b) s ≡ cond (ltb (length b) (fetching_of (slot_of s p)).live.size) (Some BufferTooShort) None) × (x ≡ fetching_of (slot_of s p))
+  try_allowed x judged =
+      let is = allowing (try_ground (slot_of s n) i) x (fetching_of (slot_of s n)) judged in
+      let known = known_party p n party in (
+        subst (λ (k : ℕ). first_ground S (try_cloud k i b) s ≡ cond (ltb (length b) (fetching_of (slot_of s k)).live.size) (Some BufferTooShort) None) known.1
+        (ground_is ∙ ap (λ o. or_first o (room_ground (slot_of s n) b)) is.0 ∙ room (slot_of s n) is.0),
+        is.1 ∙ ap (λ (k : ℕ). fetching_of (slot_of s k)) known.1,
+      )
     where
       or_false : (t : Bool) → (t || false) ≡ t
       or_false true = refl
       or_false false = refl
 
-      room : (slot : SlotValue) → not (is_fetching slot) ≡ false → room_ground slot b ≡ cond (ltb (length b) (fetching_of slot).live.size) (Some BufferTooShort) None
+      room : (slot : SlotValue) → try_ground slot i ≡ None → room_ground slot b ≡ cond (ltb (length b) (fetching_of slot).live.size) (Some BufferTooShort) None
       room idle h = absurd (grind arith)
       room (saving x) h = absurd (grind arith)
       room (fetching x) h = ap (λ t. cond t (Some BufferTooShort) None) (or_false (ltb (length b) x.live.size))
       room (sweeping x) h = absurd (grind arith)
-
--- the fetch that the slot has
-pub fetch_there : (s : State) (p n : ℕ) (x : FetchingValue) → n ≡ p
-    → Ok x ≡ or_refused (when (not (is_fetching (get_or s.slots (n - 1) idle))) SlotNotReady) (fetching_of (get_or s.slots (n - 1) idle))
-    → (not (is_fetching (slot_of s n)) ≡ false) × (x ≡ fetching_of (slot_of s p))
-fetch_there s p n x same there =
-    let is = passed (not (is_fetching (slot_of s n))) SlotNotReady x (fetching_of (slot_of s n)) there in
-    (is.0, is.1 ∙ ap (λ (k : ℕ). fetching_of (slot_of s k)) same)
 
 -- ---- what is left
 
@@ -98,7 +93,7 @@ module _ {Row : Type 0} (clouds : Row → List CloudMeaning) (gets : Row → ℕ
 
   -- what is known of a try for the fetch y that answered r
   abbrev pub TriedFor : FetchingValue → Result ℕ Refusal → Type 0
-  TriedFor y r = Tried (λ said got. gets row i (name_of y.container y.key y.stamp) (take y.live.size b) said got row') S.digested i y b b' r
+  TriedFor y r = Tried (λ said got. gets row i (fetch_name y) (take y.live.size b) said got row') S.digested i y b b' r
 
   abbrev pub TryEnd : FetchingValue → Result ℕ Refusal → Type 0
   TryEnd y r = If (ltb (length b) y.live.size) ((r ≡ Err BufferTooShort) × ((b' ≡ b) × (row' ≡ row))) (TriedFor y r)
@@ -117,7 +112,7 @@ module _ {Row : Type 0} (clouds : Row → List CloudMeaning) (gets : Row → ℕ
             said = t.said;
             part = t.part;
             whole = t.whole;
-            cloud = getting row i (name_of x.container x.key x.stamp) (take x.live.size b) t.said t.part row' t.asked;
+            cloud = getting row i (fetch_name x) (take x.live.size b) t.said t.part row' t.asked;
             answers = t.answers;
             writes = t.writes;
             leaves = ap (λ (u : State). with_clouds u (clouds row')) left;

@@ -6,20 +6,20 @@ ghost use Rattle.naming.specs.Text.{valid_key};
 ghost use Rattle.cloud.specs.Meaning.{longest_value};
 ghost use Rattle.protocol.specs.Steps.{or_refused};
 ghost use Rattle.slots.specs.Values.{answered, when};
+ghost use Rattle.locker.specs.Held.{address_parts};
 
+use entry::live::LONGEST_VALUE;
+use naming::address::Address;
 use naming::key::Key;
 use refusal::Refusal;
 use slots::limits::Limits;
 
-const LONGEST_VALUE: usize = 1024;
-
-pub(crate) fn valid_key(bytes: &[u8]) -> Result<Key, Refusal>
-    ensures { answered (λ k. k.bytes) result ≡ or_refused (when (not (valid_key bytes.now)) InvalidKey) bytes.now }
+/// The address of these bytes in the container, where they are a key.
+pub(crate) fn valid_address(container: u8, key: &[u8]) -> Result<Address, Refusal>
+    ensures { answered address_parts result ≡ or_refused (when (not (valid_key key.now)) InvalidKey) (container, key.now) }
 {
-    match Key::new(bytes) {
-        Some(key) => Ok(key),
-        None => Err(Refusal::InvalidKey),
-    }
+    let key = Key::new(key).ok_or(Refusal::InvalidKey)?;
+    Ok(Address { container, key })
 }
 
 pub(crate) fn check_value(value: &[u8]) -> Result<(), Refusal>

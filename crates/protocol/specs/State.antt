@@ -19,8 +19,12 @@ pub record State : Type 0 where
 abbrev pub valid_party : ℕ → Bool
 valid_party p = nat_le 1 p && nat_le p 16
 
+-- the slot of a party
+abbrev pub slot_at : List SlotValue → ℕ → SlotValue
+slot_at slots p = slice_index_or slots (p - 1) idle
+
 abbrev pub slot_of : State → ℕ → SlotValue
-slot_of s p = slice_index_or s.slots (p - 1) idle
+slot_of s p = slot_at s.slots p
 
 abbrev pub with_slot : State → ℕ → SlotValue → State
 with_slot s p x = record { directory = s.directory; clouds = s.clouds; slots = slice_set s.slots (p - 1) x }

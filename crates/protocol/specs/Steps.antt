@@ -16,6 +16,7 @@ use Rattle.directory.specs.declared.interface.CommitError.TheVariants.{Older, Fu
 use Rattle.directory.specs.Calls.{Answer, entry_of, stamp_of, commit_answer, commit_after}
 use Rattle.protocol.specs.declared.answers.CommitOutcome.{CommitOutcome}
 use Rattle.protocol.specs.declared.answers.CommitOutcome.TheVariants.{Committed, Passed}
+use Rattle.protocol.specs.declared.answers.Found.{Found}
 use Rattle.protocol.specs.declared.answers.Listed.{Listed}
 use Rattle.entry.specs.Clouds.{with_cloud, count}
 use Rattle.protocol.specs.Slots.{SlotValue, SavingValue, FetchingValue, SweepingValue, idle, saving, fetching, sweeping}
@@ -24,7 +25,7 @@ use Rattle.protocol.specs.Listing.{keys_of, listing}
 use Rattle.protocol.specs.Calls.{begin_save, store, commit, delete, begin_fetch, try_cloud, look_again, begin_sweep, sweep, leave, list}
 use Rattle.protocol.specs.Grounds.{first_ground, first_of, caller_grounds, slot_grounds, live_of, saved_entry}
 use Rattle.protocol.specs.Sweeping.{Swept}
-use Rattle.protocol.specs.Events.{Event, FoundValue, began_save, stored, committed, deleted, began_fetch, tried, looked_again, began_sweep, swept, left, listed}
+use Rattle.protocol.specs.Events.{Event, began_save, stored, committed, deleted, began_fetch, tried, looked_again, began_sweep, swept, left, listed}
 
 -- ---- refused, or done
 
@@ -75,6 +76,14 @@ sweeping_of (saving x) = record { container = 0; key = []; stamp = no_stamp }
 sweeping_of (fetching x) = record { container = 0; key = []; stamp = no_stamp }
 sweeping_of (sweeping x) = x
 
+-- the name under which a save puts its value
+abbrev pub save_name : SavingValue → List ℕ
+save_name x = name_of x.container x.key x.stamp
+
+-- the name under which a fetch gets its value
+abbrev pub fetch_name : FetchingValue → List ℕ
+fetch_name x = name_of x.container x.key x.stamp
+
 -- ---- saving
 
 -- the stamp of the key's next write
@@ -101,7 +110,7 @@ after_store s p x i (Err e) = s
 -- the value is put at the cloud under the save's name; a put that is acknowledged counts
 pub record Stores (s : State) (p i : ℕ) (v : List ℕ) (x : SavingValue) (r : Result ℕ Refusal) (s' : State) : Type 0 where
   pub said : Done
-  pub cloud : Called s.clouds i s'.clouds (λ m m'. PutOutcome m (name_of x.container x.key x.stamp) v said m') (said ≡ Err Silent)
+  pub cloud : Called s.clouds i s'.clouds (λ m m'. PutOutcome m (save_name x) v said m') (said ≡ Err Silent)
   pub answers : r ≡ store_answer x i said
   pub leaves : s' ≡ with_clouds (after_store s p x i said) s'.clouds
 
@@ -127,7 +136,7 @@ abbrev pub size_of : Option LiveValue → ℕ
 size_of None = 0
 size_of (Some l) = l.size
 
-abbrev pub found_entry : Option EntryValue → FoundValue
+abbrev pub found_entry : Option EntryValue → Found
 found_entry e = record { stamp = stamp_of e; size = size_of (live_of e) }
 
 -- a fetch of the key that has looked: over where no value is there
@@ -160,7 +169,7 @@ pub record Tries (S : Setting) (s : State) (p i : ℕ) (x : FetchingValue) (buff
   pub said : Length
   pub part : List ℕ
   pub whole : length part ≡ x.live.size
-  pub cloud : Called s.clouds i s'.clouds (λ m m'. GetOutcome m (name_of x.container x.key x.stamp) (take x.live.size buffer) said part m') ((said ≡ Err Silent) × (part ≡ take x.live.size buffer))
+  pub cloud : Called s.clouds i s'.clouds (λ m m'. GetOutcome m (fetch_name x) (take x.live.size buffer) said part m') ((said ≡ Err Silent) × (part ≡ take x.live.size buffer))
   pub answers : r ≡ try_answer S x i said part
   pub writes : buffer' ≡ part_after S x said part ++ drop x.live.size buffer
   pub leaves : s' ≡ with_clouds (after_try S s p x said part) s'.clouds

@@ -1,2 +1,2 @@
 pub mod Values
-pub mod Asked
+pub mod Grounds

@@ -1,5 +1,5 @@
 -- What the slots and their parts stand for.
-use Rattle.std.specs.Prelude.{ℕ, ◌+◌, ◌*◌, Bool, true, false, ◌&&◌, List, map, Some, None, Ok, Err, Option, Result, nat_le}
+use Rattle.std.specs.Prelude.{ℕ, ◌+◌, ◌*◌, Bool, true, false, ◌&&◌, List, Some, None, Ok, Err, Option, Result, nat_le}
 use Rattle.refusal.specs.declared.Refusal.{Refusal}
 use Rattle.naming.specs.Stamps.{StampValue}
 use Rattle.digest.specs.Value.{digest_bytes}
@@ -7,15 +7,11 @@ use Rattle.entry.specs.Entries.{live_value, stamp_taken}
 use Rattle.protocol.specs.Slots.{SlotValue, SavingValue, FetchingValue, SweepingValue, idle, saving, fetching, sweeping}
 use Rattle.protocol.specs.State.{Setting}
 use Rattle.slots.specs.declared.limits.Limits.{Limits}
-use Rattle.slots.specs.declared.clouds.CloudSet.{CloudSet}
-use Rattle.slots.specs.declared.party.Party.{Party}
 use Rattle.slots.specs.declared.saving.Saving.{Saving as SavingStruct}
-use Rattle.slots.specs.declared.slot.Fetching.{Fetching as FetchingStruct}
-use Rattle.slots.specs.declared.slot.Sweeping.{Sweeping as SweepingStruct}
-use Rattle.slots.specs.declared.slot.Doing.{Doing}
-use Rattle.slots.specs.declared.slot.Doing.TheVariants.{Idle, Saving, Fetching, Sweeping}
-use Rattle.slots.specs.declared.slot.Slot.{Slot}
-use Rattle.slots.specs.declared.sixteen.Slots.{Slots}
+use Rattle.slots.specs.declared.doing.Fetching.{Fetching as FetchingStruct}
+use Rattle.slots.specs.declared.doing.Sweeping.{Sweeping as SweepingStruct}
+use Rattle.slots.specs.declared.doing.Doing.{Doing}
+use Rattle.slots.specs.declared.doing.Doing.TheVariants.{Idle, Saving, Fetching, Sweeping}
 
 -- an answer by its value
 abbrev pub answered : {X Y : Type 0} → (X → Y) → Result X Refusal → Result Y Refusal
@@ -26,12 +22,6 @@ answered f (Err e) = Err e
 abbrev pub when : Bool → Refusal → Option Refusal
 when true e = Some e
 when false e = None
-
-abbrev pub set_bits : CloudSet → ℕ
-set_bits s = s.bits
-
-abbrev pub party_number : Party → ℕ
-party_number p = p.number
 
 -- 1 to 3 faults, 3 to 7 clouds, and more than twice as many clouds as faults
 abbrev pub supported : ℕ → ℕ → Bool
@@ -50,22 +40,16 @@ can_begin stamp size = stamp_taken stamp && nat_le size 1024
 
 abbrev pub saving_value : SavingStruct → SavingValue
 saving_value x =
-    record { container = x.container; key = x.key.bytes; stamp = x.stamp; size = x.size; digest = digest_bytes x.digest; stored = set_bits x.stored }
+    record { container = x.at.container; key = x.at.key.bytes; stamp = x.stamp; size = x.size; digest = digest_bytes x.digest; stored = x.stored }
 
 abbrev pub fetching_value : FetchingStruct → FetchingValue
-fetching_value x = record { container = x.container; key = x.key.bytes; stamp = x.stamp; live = live_value x.live }
+fetching_value x = record { container = x.at.container; key = x.at.key.bytes; stamp = x.stamp; live = live_value x.live }
 
 abbrev pub sweeping_value : SweepingStruct → SweepingValue
-sweeping_value x = record { container = x.container; key = x.key.bytes; stamp = x.stamp }
+sweeping_value x = record { container = x.at.container; key = x.at.key.bytes; stamp = x.stamp }
 
 abbrev pub doing_value : Doing → SlotValue
 doing_value Idle = idle
 doing_value (Saving x) = saving (saving_value x)
 doing_value (Fetching x) = fetching (fetching_value x)
 doing_value (Sweeping x) = sweeping (sweeping_value x)
-
-abbrev pub slot_value : Slot → SlotValue
-slot_value s = doing_value s.doing
-
-abbrev pub slots_value : Slots → List SlotValue
-slots_value s = map slot_value s.at

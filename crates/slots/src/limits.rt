@@ -5,6 +5,7 @@ ghost use Rattle.std.specs.Prelude.{◌+◌, ◌*◌, ◌≤◌};
 mod methods;
 
 /// How many clouds the row has, 3 to 7, and how many of them may be unsound, 1 to 3 and fewer than half.
+// No `impl Model`: clauses read the two numbers by name as they are, and a Locker's proofs the bounds.
 #[derive(Clone, Copy)]
 pub struct Limits {
     faults: u8,

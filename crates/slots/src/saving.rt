@@ -4,18 +4,18 @@ ghost use Rattle.std.specs.Prelude.{◌≡◌, ◌≤◌, true};
 ghost use Rattle.digest.specs.Value.{digest_bytes};
 ghost use Rattle.entry.specs.Bytes.{digest_fits};
 
-use crate::clouds::CloudSet;
 use digest::value::Digest;
-use naming::key::Key;
+use entry::clouds::CloudSet;
+use naming::address::Address;
 use naming::stamp::Stamp;
 
 mod methods;
 
 /// A save that is under way: all that its entry will have, and the clouds that have acknowledged the value so far.
+// No `impl Model`: a save is copied, and what is known of its key and of its digest is not got back from what it stands for.
 #[derive(Clone, Copy)]
 pub struct Saving {
-    container: u8,
-    key: Key,
+    at: Address,
     stamp: Stamp,
     size: u16,
     digest: Digest,

@@ -1,12 +1,11 @@
 //! What calls ask of one cloud: to keep the value of a save, and to give the value of a fetch.
 #![tactic(auto)]
 
-ghost use Rattle.std.specs.Prelude.{◌≡◌, length, take, replicate, Err, nat_lt};
+ghost use Rattle.std.specs.Prelude.{◌≡◌, length, take, Err, nat_lt};
 ghost use Rattle.refusal.specs.declared.Refusal.TheVariants.{BufferTooShort};
-ghost use Rattle.naming.specs.Names.{name_of};
 ghost use Rattle.entry.specs.Entries.{live_value};
 ghost use Rattle.row.specs.Rows.{If, numbered};
-ghost use Rattle.protocol.specs.Steps.{is_saved_value};
+ghost use Rattle.protocol.specs.Steps.{is_saved_value, save_name, fetch_name};
 ghost use Rattle.slots.specs.Values.{digesting, fetching_value, saving_value};
 ghost use Rattle.trying.specs.Tried.{Judged, Kept, Tried, put_said};
 
@@ -16,8 +15,8 @@ use naming::name::Name;
 use refusal::{CloudFault, Refusal};
 use row::fault::at_cloud;
 use row::interface::Row;
+use slots::doing::Fetching;
 use slots::saving::Saving;
-use slots::slot::Fetching;
 
 /// Puts the value of the save at the cloud.
 pub fn put_at<R: Row>(
@@ -26,7 +25,7 @@ pub fn put_at<R: Row>(
     saving: &Saving,
     value: &[u8],
 ) -> Result<(), CloudFault>
-    ensures asked { R.puts row.old cloud (name_of (saving_value saving.now).container (saving_value saving.now).key (saving_value saving.now).stamp) value.now (put_said result) row.new }
+    ensures asked { R.puts row.old cloud (save_name (saving_value saving.now)) value.now (put_said result) row.new }
     ensures fault { result ≡ numbered cloud (put_said result) }
 {
     let name = saving.name();
@@ -47,23 +46,15 @@ fn ask<R: Row, K: DigestKind>(
     fetching: &Fetching,
     part: &mut [u8],
 ) -> Result<usize, Refusal>
-    ensures judged { Judged (λ said got. R.gets row.old cloud (name_of fetching.now.container fetching.now.key.bytes fetching.now.stamp) part.old said got row.new) K.digested cloud (fetching_value fetching.now) part.new result }
+    ensures judged { let x = fetching_value fetching.now in Judged (λ said got. R.gets row.old cloud (fetch_name x) part.old said got row.new) K.digested cloud x part.new result }
     ensures len { length part.new ≡ length part.old }
 {
-    let name = Name::new(fetching.container, &fetching.key, &fetching.stamp);
+    let name = Name::new(&fetching.at, &fetching.stamp);
     let length = at_cloud(cloud, row.get(cloud, name.as_bytes(), part))?;
     if !is_saved::<K>(&fetching.live, length, part) {
         return Err(Refusal::ValueMismatch);
     }
     Ok(fetching.live.size())
-}
-
-fn clear(part: &mut [u8])
-    ensures { part.new ≡ replicate (length part.old) 0 }
-{
-    for i in 0..part.len() {
-        part[i] = 0;
-    }
 }
 
 // As `ask`; a part that does not hold the value which was saved is cleared.
@@ -74,11 +65,11 @@ fn ask_or_clear<R: Row, K: DigestKind>(
     part: &mut [u8],
 ) -> Result<usize, Refusal>
     requires { length part.old ≡ (fetching_value fetching.now).live.size }
-    ensures { Kept (λ said got. R.gets row.old cloud (name_of fetching.now.container fetching.now.key.bytes fetching.now.stamp) part.old said got row.new) K.digested cloud (fetching_value fetching.now) part.new result }
+    ensures { let x = fetching_value fetching.now in Kept (λ said got. R.gets row.old cloud (fetch_name x) part.old said got row.new) K.digested cloud x part.new result }
 {
     let answer = ask::<R, K>(row, cloud, fetching, part);
     if answer.is_err() {
-        clear(part);
+        part.fill(0);
     }
     answer
 }
@@ -91,7 +82,7 @@ pub fn try_at<R: Row, K: DigestKind>(
     fetching: &Fetching,
     buffer: &mut [u8],
 ) -> Result<usize, Refusal>
-    ensures { If (nat_lt (length buffer.old) (fetching_value fetching.now).live.size) ((result ≡ Err BufferTooShort) × ((buffer.new ≡ buffer.old) × (row.new ≡ row.old))) (Tried (λ said got. R.gets row.old cloud (name_of fetching.now.container fetching.now.key.bytes fetching.now.stamp) (take (fetching_value fetching.now).live.size buffer.old) said got row.new) K.digested cloud (fetching_value fetching.now) buffer.old buffer.new result) }
+    ensures { let x = fetching_value fetching.now in If (nat_lt (length buffer.old) x.live.size) ((result ≡ Err BufferTooShort) × ((buffer.new ≡ buffer.old) × (row.new ≡ row.old))) (Tried (λ said got. R.gets row.old cloud (fetch_name x) (take x.live.size buffer.old) said got row.new) K.digested cloud x buffer.old buffer.new result) }
 {
     let size = fetching.live.size();
     if buffer.len() < size {

@@ -33,9 +33,10 @@ impl<D: Directory, R: Row, K: DigestKind> Locker<D, R, K> {
     ///
     /// A Locker that is opened over an empty directory keeps its promises over every history of calls.
     pub fn open(directory: D, row: R, faults: u8) -> Result<Locker<D, R, K>, Rejected<(D, R)>>
-        ensures value { MatchResult result (λ l. (supported faults (length (R.clouds row)) ≡ true) × (l.directory ≡ directory) × (l.row ≡ row) × (state_of (D.meaning l.directory) (R.clouds l.row) l.slots ≡ record { directory = D.meaning directory; clouds = R.clouds row; slots = replicate 16 idle }) × (setting_of K.digested l.limits ≡ record { digested = K.digested; faults = faults; clouds = length (R.clouds row) })) (λ e. (supported faults (length (R.clouds row)) ≡ false) × (e.refusal ≡ UnsupportedRow) × (e.given ≡ (directory, row))) }
-        ensures promises { IfOk result (λ l. (D.meaning directory).entries ≡ [] → Promises (setting_of K.digested l.limits) (state_of (D.meaning l.directory) (R.clouds l.row) l.slots)) }
+        ensures value { MatchResult result (λ l. (supported faults (length (R.clouds row)) ≡ true) × (l.directory ≡ directory) × (l.row ≡ row) × (state_of D.meaning R.clouds K.digested l ≡ record { directory = D.meaning directory; clouds = R.clouds row; slots = replicate 16 idle }) × (setting_of K.digested l.limits ≡ record { digested = K.digested; faults = faults; clouds = length (R.clouds row) })) (λ e. (supported faults (length (R.clouds row)) ≡ false) × (e.refusal ≡ UnsupportedRow) × (e.given ≡ (directory, row))) }
+        ensures promises { IfOk result (λ l. (D.meaning directory).entries ≡ [] → Promises (setting_of K.digested l.limits) (state_of D.meaning R.clouds K.digested l)) }
     {
+        // Not `ok_or`: what was given moves into the refusal only where there is one.
         let Some(limits) = limits_of(&row, faults) else {
             return Err(Rejected {
                 refusal: Refusal::UnsupportedRow,

@@ -1,43 +1,34 @@
 //! Beginning a save, going on with it, and the entry that it comes to.
 
 ghost use Rattle.std.specs.Prelude.{◌≡◌, true, false, ◌||◌, ltb, length, if◌then◌else◌, MatchOption, nat_le, nat_lt};
-ghost use Rattle.naming.specs.Names.{name_of};
 ghost use Rattle.entry.specs.Entries.{entry_value};
 ghost use Rattle.entry.specs.Clouds.{lists, count};
 ghost use Rattle.protocol.specs.Grounds.{is_begun_value, saved_entry};
-ghost use Rattle.protocol.specs.Steps.{acknowledged};
+ghost use Rattle.protocol.specs.Steps.{acknowledged, save_name};
 ghost use Rattle.slots.specs.Values.{saving_value, can_begin, digesting};
 
 use super::Saving;
-use crate::clouds::CloudSet;
 use crate::limits::Limits;
 use digest::kind::DigestKind;
 use digest::value::Digest;
+use entry::clouds::CloudSet;
 use entry::entry::Entry;
-use entry::live::Live;
-use naming::key::Key;
+use entry::live::{LONGEST_VALUE, Live};
+use naming::address::Address;
 use naming::name::Name;
 use naming::stamp::Stamp;
 
-const LONGEST_VALUE: usize = 1024;
-
 impl Saving {
     /// The save of a value of at most 1,024 bytes, with a stamp neither number of which is 0.
-    pub fn begin<K: DigestKind>(
-        container: u8,
-        key: Key,
-        stamp: Stamp,
-        value: &[u8],
-    ) -> Option<Saving>
-        ensures { MatchOption result (can_begin stamp (length value.now) ≡ false) (λ x. (can_begin stamp (length value.now) ≡ true) × (saving_value x ≡ record { container = container; key = key.bytes; stamp = stamp; size = length value.now; digest = K.digested value.now; stored = 0 })) }
+    pub fn begin<K: DigestKind>(at: Address, stamp: Stamp, value: &[u8]) -> Option<Saving>
+        ensures { MatchOption result (can_begin stamp (length value.now) ≡ false) (λ x. (can_begin stamp (length value.now) ≡ true) × (saving_value x ≡ record { container = at.container; key = at.key.bytes; stamp = stamp; size = length value.now; digest = K.digested value.now; stored = 0 })) }
     {
         if stamp.sequence() < 1 || stamp.writer() < 1 || value.len() > LONGEST_VALUE {
             return None;
         }
         let digest = Digest::of::<K>(value);
         Some(Saving {
-            container,
-            key,
+            at,
             stamp,
             size: value.len() as u16,
             digest,
@@ -45,11 +36,11 @@ impl Saving {
         })
     }
 
-    /// The container and the key.
-    pub fn address(&self) -> (u8, Key)
-        ensures { (result.0 ≡ (saving_value self.now).container) × (result.1.bytes ≡ (saving_value self.now).key) }
+    /// Where the value is kept.
+    pub fn address(&self) -> Address
+        ensures { (result.container ≡ (saving_value self.now).container) × (result.key.bytes ≡ (saving_value self.now).key) }
     {
-        (self.container, self.key)
+        self.at
     }
 
     /// How many clouds have acknowledged the value.
@@ -61,9 +52,9 @@ impl Saving {
 
     /// The name under which the value is put.
     pub fn name(&self) -> Name
-        ensures { result ≡ name_of (saving_value self.now).container (saving_value self.now).key (saving_value self.now).stamp }
+        ensures { result ≡ save_name (saving_value self.now) }
     {
-        Name::new(self.container, &self.key, &self.stamp)
+        Name::new(&self.at, &self.stamp)
     }
 
     /// Whether this is the value that was begun. Its digest is computed only where the size is right.
@@ -77,14 +68,9 @@ impl Saving {
     pub fn acknowledged(&self, cloud: usize) -> Saving
         ensures { saving_value result ≡ (if ltb cloud 7 then acknowledged (saving_value self.now) cloud else saving_value self.now) }
     {
-        Saving {
-            container: self.container,
-            key: self.key,
-            stamp: self.stamp,
-            size: self.size,
-            digest: self.digest,
-            stored: self.stored.with(cloud),
-        }
+        let mut more = *self;
+        more.stored = self.stored.with(cloud);
+        more
     }
 
     /// Whether the cloud has acknowledged the value, or more clouds have than may be unsound.

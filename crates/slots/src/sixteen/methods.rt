@@ -1,75 +1,134 @@
 //! What a call does with the one slot of its party.
 
-ghost use Rattle.std.specs.Prelude.{◌≡◌, ◌-◌, not, replicate, slice_index_or, slice_set};
-ghost use Rattle.refusal.specs.declared.Refusal.TheVariants.{SlotNotReady};
-ghost use Rattle.protocol.specs.Slots.{idle, is_saving, is_fetching, is_sweeping, of_saving};
-ghost use Rattle.protocol.specs.Grounds.{is_begun_value};
+ghost use Rattle.std.specs.Prelude.{◌≡◌, ◌-◌, not, replicate, slice_set};
+ghost use Rattle.refusal.specs.declared.Refusal.TheVariants.{SlotBusy, SlotNotReady};
+ghost use Rattle.protocol.specs.Slots.{idle, is_idle, is_saving, is_fetching, is_sweeping};
+ghost use Rattle.protocol.specs.State.{slot_at};
 ghost use Rattle.protocol.specs.Steps.{or_refused, saving_of, fetching_of, sweeping_of};
-ghost use Rattle.slots.specs.Values.{answered, when, party_number, doing_value, slot_value, slots_value, saving_value, fetching_value, sweeping_value, digesting};
-ghost use Rattle.slots.specs.Asked.{slot_ground};
+ghost use Rattle.slots.specs.Values.{answered, when, setting_of, doing_value, saving_value, fetching_value, sweeping_value};
+ghost use Rattle.slots.specs.Grounds.{store_ground, commit_ground, try_ground};
 
 use super::Slots;
+use crate::doing::{Doing, Fetching, Sweeping};
 use crate::limits::Limits;
 use crate::party::Party;
 use crate::saving::Saving;
-use crate::slot::{Asked, Doing, Fetching, Slot, Sweeping};
 use digest::kind::DigestKind;
 use refusal::Refusal;
 
 impl Slots {
     /// Sixteen slots, all idle.
     pub fn idle() -> Slots
-        ensures { slots_value result ≡ replicate 16 idle }
+        ensures { result ≡ replicate 16 idle }
     {
-        let slot = Slot { doing: Doing::Idle };
-        Slots { at: [slot; 16] }
+        Slots {
+            at: [Doing::Idle; 16],
+        }
     }
 
-    fn slot(&self, party: Party) -> Slot
-        ensures { slot_value result ≡ slice_index_or (slots_value self.now) (party_number party - 1) idle }
+    fn doing(&self, party: Party) -> Doing
+        ensures { doing_value result ≡ slot_at self.now party }
     {
         self.at[party.index()]
     }
 
-    /// Whether the party's slot, as it is, allows what is asked.
-    pub fn judge(&self, party: Party, asked: Asked, limits: &Limits) -> Result<(), Refusal>
-        ensures { result ≡ or_refused (slot_ground limits.now.faults (slice_index_or (slots_value self.now) (party_number party - 1) idle) asked) tt }
+    fn is_idle(&self, party: Party) -> bool
+        ensures { result ≡ is_idle (slot_at self.now party) }
     {
-        self.slot(party).judge(asked, limits)
+        matches!(self.doing(party), Doing::Idle)
     }
 
-    /// Whether this is the value of the party's save.
-    pub fn is_begun<K: DigestKind>(&self, party: Party, value: &[u8]) -> bool
-        ensures { result ≡ of_saving (slice_index_or (slots_value self.now) (party_number party - 1) idle) (is_begun_value (digesting K.digested) value.now) }
+    /// Whether the party's slot is idle, as a call that begins something needs it.
+    pub fn check_idle(&self, party: Party) -> Result<(), Refusal>
+        ensures { result ≡ or_refused (when (not (is_idle (slot_at self.now party))) SlotBusy) tt }
     {
-        self.slot(party).is_begun::<K>(value)
+        if self.is_idle(party) {
+            Ok(())
+        } else {
+            Err(Refusal::SlotBusy)
+        }
     }
+
+    /// Whether the party has something under way that it can leave.
+    pub fn check_busy(&self, party: Party) -> Result<(), Refusal>
+        ensures { result ≡ or_refused (when (is_idle (slot_at self.now party)) SlotNotReady) tt }
+    {
+        if self.is_idle(party) {
+            Err(Refusal::SlotNotReady)
+        } else {
+            Ok(())
+        }
+    }
+
+    // Not one function of the wanted type: its clause could only say that some `Doing` at the slot was converted.
 
     /// The party's save.
     pub fn saving(&self, party: Party) -> Result<Saving, Refusal>
-        ensures { answered saving_value result ≡ or_refused (when (not (is_saving (slice_index_or (slots_value self.now) (party_number party - 1) idle))) SlotNotReady) (saving_of (slice_index_or (slots_value self.now) (party_number party - 1) idle)) }
+        ensures { answered saving_value result ≡ or_refused (when (not (is_saving (slot_at self.now party))) SlotNotReady) (saving_of (slot_at self.now party)) }
     {
-        self.slot(party).saving()
+        Saving::try_from(self.doing(party))
     }
 
     /// The party's fetch.
     pub fn fetching(&self, party: Party) -> Result<Fetching, Refusal>
-        ensures { answered fetching_value result ≡ or_refused (when (not (is_fetching (slice_index_or (slots_value self.now) (party_number party - 1) idle))) SlotNotReady) (fetching_of (slice_index_or (slots_value self.now) (party_number party - 1) idle)) }
+        ensures { answered fetching_value result ≡ or_refused (when (not (is_fetching (slot_at self.now party))) SlotNotReady) (fetching_of (slot_at self.now party)) }
     {
-        self.slot(party).fetching()
+        Fetching::try_from(self.doing(party))
     }
 
     /// The party's sweep.
     pub fn sweeping(&self, party: Party) -> Result<Sweeping, Refusal>
-        ensures { answered sweeping_value result ≡ or_refused (when (not (is_sweeping (slice_index_or (slots_value self.now) (party_number party - 1) idle))) SlotNotReady) (sweeping_of (slice_index_or (slots_value self.now) (party_number party - 1) idle)) }
+        ensures { answered sweeping_value result ≡ or_refused (when (not (is_sweeping (slot_at self.now party))) SlotNotReady) (sweeping_of (slot_at self.now party)) }
     {
-        self.slot(party).sweeping()
+        Sweeping::try_from(self.doing(party))
+    }
+
+    /// The party's save, where the value is that of the save and is still to be stored at the cloud.
+    pub fn to_store<K: DigestKind>(
+        &self,
+        party: Party,
+        cloud: usize,
+        value: &[u8],
+        limits: &Limits,
+    ) -> Result<Saving, Refusal>
+        ensures { answered saving_value result ≡ or_refused (store_ground (setting_of K.digested limits.now) (slot_at self.now party) cloud value.now) (saving_of (slot_at self.now party)) }
+    {
+        let saving = self.saving(party)?;
+        if !saving.is_of::<K>(value) {
+            return Err(Refusal::DifferentValue);
+        }
+        if saving.is_done_at(cloud, limits) {
+            return Err(Refusal::AlreadyStored);
+        }
+        Ok(saving)
+    }
+
+    /// The party's save, where more clouds have acknowledged it than may be unsound.
+    pub fn to_commit(&self, party: Party, limits: &Limits) -> Result<Saving, Refusal>
+        ensures { answered saving_value result ≡ or_refused (commit_ground limits.now.faults (slot_at self.now party)) (saving_of (slot_at self.now party)) }
+    {
+        let saving = self.saving(party)?;
+        if saving.is_short(limits) {
+            return Err(Refusal::TooFewStored);
+        }
+        Ok(saving)
+    }
+
+    /// The party's fetch, where its entry lists the cloud.
+    pub fn to_try(&self, party: Party, cloud: usize) -> Result<Fetching, Refusal>
+        ensures { answered fetching_value result ≡ or_refused (try_ground (slot_at self.now party) cloud) (fetching_of (slot_at self.now party)) }
+    {
+        let fetching = self.fetching(party)?;
+        if !fetching.live.is_on(cloud) {
+            return Err(Refusal::CloudNotListed);
+        }
+        Ok(fetching)
     }
 
     /// The party's slot goes over to this; the other fifteen stay.
     pub fn turn(&mut self, party: Party, doing: Doing)
-        ensures { slots_value self.new ≡ slice_set (slots_value self.old) (party_number party - 1) (doing_value doing) }
+        ensures { self.new ≡ slice_set self.old (party - 1) (doing_value doing) }
     {
-        self.at[party.index()].doing = doing;
+        self.at[party.index()] = doing;
     }
 }

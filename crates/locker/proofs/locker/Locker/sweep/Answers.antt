@@ -9,8 +9,7 @@ use Rattle.protocol.specs.Steps.{sweeping_of, next_at, drop_at}
 use Rattle.slots.specs.Values.{setting_of, sweeping_value}
 use Rattle.locker.specs.Held.{state_of, swept_said}
 use Rattle.locker.proofs.Storing.{done_by, kept_by}
-use Rattle.locker.proofs.Grounds.{sweep_not_sweeping}
-use Rattle.locker.proofs.Sweeps.{sweep_there, sweep_ends, sweep_refused, fault_numbered}
+use Rattle.locker.proofs.Sweeps.{sweep_judged, sweep_there, sweep_ends, sweep_refused, fault_numbered}
 use Rattle.locker.proofs.locker.Locker.sweep.Goals as goal
 
 pub returns-in_err-dropped : goal.returns-in_err-dropped
@@ -18,19 +17,18 @@ returns-in_err-dropped g c =
     let S : Setting = setting_of g.K.DigestKind.digested c.args.self.now.limits in
     let row = c.args.self.now.row in
     let row' = c.sweep.new.row in
-    let s : State = state_of (g.D.Directory.meaning c.args.self.now.directory) (g.R.Row.clouds row) c.args.self.now.slots in
+    let s : State = state_of g.D.Directory.meaning g.R.Row.clouds g.K.DigestKind.digested c.args.self.now in
     let p = c.args.party in
     let i = c.args.cloud in
-    let there = sweep_there S s p c.in_ok-party.party.number i (sweeping_value c.in_ok-sweeping.sweeping) c.in_ok-party.ensures c.in_ok-check_cloud.ensures c.in_ok-sweeping.ensures in
+    let there = sweep_there S s p c.in_ok-party.party i (sweeping_value c.in_ok-sweeping.sweeping) c.in_ok-party.ensures c.in_ok-check_cloud.ensures c.in_ok-sweeping.ensures in
     let fault : CloudFault = c.in_err-dropped.field-0.0 in
     let told : c.from_residual-in_err-dropped.result ≡ Err (CloudRefused fault) = search rules in
     let met = c.in_err-dropped.ensures in
     let chain = subst (λ (x : SweepingValue). Swept (λ a above place answer place' b. g.R.Row.nexts a i above place answer place' b) (λ a name answer b. g.R.Row.drops a i name answer b) x row row' (Err fault.cause)) there.1 met.chain in
     let meant = subst (λ (x : SweepingValue). Swept (next_at i) (drop_at i) x (g.R.Row.clouds row) (g.R.Row.clouds row') (Err fault.cause)) there.1 met.meaning in
     record {
-      step = sweep_ends S s p i (g.R.Row.clouds row') c.from_residual-in_err-dropped.result (Err fault.cause) there.0 meant (fault_numbered i fault c.from_residual-in_err-dropped.result met.fault told);
+      call = record { step = sweep_ends S s p i (g.R.Row.clouds row') c.from_residual-in_err-dropped.result (Err fault.cause) there.0 meant (fault_numbered i fault c.from_residual-in_err-dropped.result met.fault told); limits = refl };
       row = done_by _ _ _ there.0 (subst (λ (r : Result ℕ Refusal). Swept (λ a above place answer place' b. g.R.Row.nexts a i above place answer place' b) (λ a name answer b. g.R.Row.drops a i name answer b) (sweeping_of (slot_of s p)) row row' (swept_said r)) (sym told) chain);
-      limits = refl;
     }
 
 pub returns : goal.returns
@@ -38,20 +36,13 @@ returns g c =
     let S : Setting = setting_of g.K.DigestKind.digested c.args.self.now.limits in
     let row = c.args.self.now.row in
     let row' = c.sweep.new.row in
-    let s : State = state_of (g.D.Directory.meaning c.args.self.now.directory) (g.R.Row.clouds row) c.args.self.now.slots in
+    let s : State = state_of g.D.Directory.meaning g.R.Row.clouds g.K.DigestKind.digested c.args.self.now in
     let p = c.args.party in
     let i = c.args.cloud in
-    let there = sweep_there S s p c.in_ok-party.party.number i (sweeping_value c.in_ok-sweeping.sweeping) c.in_ok-party.ensures c.in_ok-check_cloud.ensures c.in_ok-sweeping.ensures in
+    let there = sweep_there S s p c.in_ok-party.party i (sweeping_value c.in_ok-sweeping.sweeping) c.in_ok-party.ensures c.in_ok-check_cloud.ensures c.in_ok-sweeping.ensures in
     let k = c.in_ok-dropped.dropped in
     let met = c.in_ok-dropped.ensures in
     let chain = subst (λ (x : SweepingValue). Swept (λ a above place answer place' b. g.R.Row.nexts a i above place answer place' b) (λ a name answer b. g.R.Row.drops a i name answer b) x row row' (Ok k)) there.1 met.chain in
     let meant = subst (λ (x : SweepingValue). Swept (next_at i) (drop_at i) x (g.R.Row.clouds row) (g.R.Row.clouds row') (Ok k)) there.1 met.meaning in
-    record { step = sweep_ends S s p i (g.R.Row.clouds row') (Ok k) (Ok k) there.0 meant refl; row = done_by _ _ _ there.0 chain; limits = refl }
+    record { call = record { step = sweep_ends S s p i (g.R.Row.clouds row') (Ok k) (Ok k) there.0 meant refl; limits = refl }; row = done_by _ _ _ there.0 chain }
 
-pub returns-in_err-sweeping : goal.returns-in_err-sweeping
-returns-in_err-sweeping g c =
-    let S : Setting = setting_of g.K.DigestKind.digested c.args.self.now.limits in
-    let s : State = state_of (g.D.Directory.meaning c.args.self.now.directory) (g.R.Row.clouds c.args.self.now.row) c.args.self.now.slots in
-    let e = c.in_err-sweeping.field-0.0 in
-    let ground = sweep_not_sweeping S s c.args.party c.in_ok-party.party.number e c.in_ok-party.ensures c.args.cloud c.in_ok-check_cloud.ensures _ c.in_err-sweeping.ensures in
-    record { step = sweep_refused S s c.args.party c.args.cloud _ e ground (search rules); row = kept_by _ _ _ _ ground refl; limits = refl }

@@ -5,19 +5,7 @@ use Rattle.std.proofs.lemmas.List.{length-append, length-drop, length-take-le, t
 use Rattle.std.proofs.lemmas.Slice.{drop-append-drop}
 use Rattle.std.proofs.lemmas.List.Edits.{sets-eq}
 use Rattle.digest.specs.Words.{be4}
-
-pub length_bytes : (ws : List ℕ) → length (flat_map be4 ws) ≡ 4 * length ws
-length_bytes [] = refl
-length_bytes (w ∷ ws) = omega (arith, length_bytes ws)
-
--- each is a byte
-pub bytes_small : (ws : List ℕ) (k : ℕ) → get_or (flat_map be4 ws) k 0 < 256
-bytes_small [] k = omega arith
-bytes_small (w ∷ ws) zero = omega arith
-bytes_small (w ∷ ws) (suc zero) = omega arith
-bytes_small (w ∷ ws) (suc (suc zero)) = omega arith
-bytes_small (w ∷ ws) (suc (suc (suc zero))) = omega arith
-bytes_small (w ∷ ws) (suc (suc (suc (suc k)))) = bytes_small ws k
+use Rattle.digest.specs.Widths.{length_bytes}
 
 -- four bytes, written one after another
 four : (out : List ℕ) (n a b c d : ℕ) → n + 4 ≤ length out

@@ -3,5 +3,4 @@ pub mod Window
 pub mod Padding
 pub mod Chaining
 pub mod Bytes
-pub mod Widths
 pub mod Kept

@@ -3,7 +3,7 @@ use Rattle.std.specs.Prelude.{◌≡◌, ℕ, ◌<◌, List, length, slice_index
 use Rattle.digest.specs.Words.{sums}
 use Rattle.digest.specs.Rounds.{turned, grown, compression}
 use Rattle.digest.specs.Message.{padded, block, digest_of}
-use Rattle.digest.proofs.Widths.{length_compression, length_digest_of, digest_of_small}
+use Rattle.digest.specs.Widths.{length_compression, length_digest_of, digest_of_small}
 use Rattle.sha1_digest.specs.Constants.{initial}
 use Rattle.sha1_digest.specs.Sha1.{mixed, round, compressed, sha1, DigestOfAbc}
 

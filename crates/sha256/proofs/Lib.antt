@@ -1,1 +1,1 @@
-pub mod Schedule
+pub mod Rotations

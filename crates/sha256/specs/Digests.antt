@@ -3,7 +3,7 @@ use Rattle.std.specs.Prelude.{◌≡◌, refl, List, ℕ, ◌<◌, length, get_o
 use Rattle.digest.specs.Words.{sums}
 use Rattle.digest.specs.Rounds.{turned, grown, compression}
 use Rattle.digest.specs.Message.{padded, block, digest_of}
-use Rattle.digest.proofs.Widths.{length_compression, length_digest_of, digest_of_small}
+use Rattle.digest.specs.Widths.{length_compression, length_digest_of, digest_of_small}
 use Rattle.sha256.specs.Constants.{constants, initial}
 use Rattle.sha256.specs.Sha256.{mixed, round, compressed, sha256, DigestOfAbc}
 

@@ -1,4 +1,5 @@
 use Rattle.std.proofs.Common.{ap, ◌∙◌}
+use Rattle.digest.specs.Rounds.{compression}
 use Rattle.digest.proofs.Chaining.{with_length, ends_in_one, ends_in_two}
 use Rattle.digest.proofs.chain.compress_end.Goals as goal
 use Rattle.digest.proofs.chain.compress_end.Goals.{then-value-ge-BEFORE_LENGTH, else-value-ge-BEFORE_LENGTH}
@@ -7,7 +8,7 @@ pub returns : goal.returns
 returns g c =
     let k = g.C.Compression in
     let m = c.args.value.now in
-    let compressed = k.compressed in
+    let compressed = compression k.round k.mixed k.ROUNDS k.size in
     let ends = c.end_block-words.ensures in
     c.compress-2.ensures ∙ ap (compressed (k.hash c.if-value-ge-BEFORE_LENGTH.state)) c.put_length.ensures
     ∙ elim c.if-value-ge-BEFORE_LENGTH.branch [

@@ -3,9 +3,9 @@ ghost use Rattle.std.specs.Prelude.{◌≡◌, ℕ, ◌+◌, ◌-◌, ◌*◌, �
 ghost use Rattle.std.specs.List.{flat_map};
 ghost use Rattle.digest.specs.Words.{be4, sums};
 ghost use Rattle.digest.specs.Rounds.{turned, compression, ReadsSixteen};
-ghost use Rattle.digest.specs.Message.{padded, PaddingRight, block, digest_of};
+ghost use Rattle.digest.specs.Message.{ending, PaddingRight, block, digest_of};
 
-use super::blocks::{end_block, put_length, whole_block};
+use super::blocks::block_words;
 use super::rounds::compressed;
 
 /// A hash value under way, which is also the working variables of the rounds: its words, its rounds and its message
@@ -75,18 +75,21 @@ pub trait Compression: Copy {
 /// How many bytes of the last block come before the length.
 const BEFORE_LENGTH: usize = 56;
 
-/// Compresses the blocks of the padded value that the value does not fill: one, or two where the length finds no place
-/// in the block in which the value ends.
-fn compress_end<C: Compression>(state: &mut C, value: &[u8])
-    ensures { C.hash state.new ≡ turned (λ h i. compression C.round C.mixed C.ROUNDS C.size h (block (padded value.now) (length value.now / 64 + i))) (C.hash state.old) ((length value.now % 64 + 72) / 64) }
+/// Compresses the blocks of a padded value of `len` bytes that the value does not fill, `rest` being what is left of it
+/// there: one block, or two where the length finds no place in the block in which the value ends.
+fn compress_end<C: Compression>(state: &mut C, rest: &[u8], len: usize)
+    requires { length rest.now ≡ len % 64 }
+    ensures { C.hash state.new ≡ turned (λ h i. compression C.round C.mixed C.ROUNDS C.size h (block (ending rest.now len) i)) (C.hash state.old) ((length rest.now + 72) / 64) }
 {
-    let mut words = end_block(value);
-    if value.len() % 64 >= BEFORE_LENGTH {
-        state.compress(&words);
-        words = [0; 16];
+    let mut last = [0; 64];
+    last[..rest.len()].copy_from_slice(rest);
+    last[rest.len()] = 0x80;
+    if rest.len() >= BEFORE_LENGTH {
+        state.compress(&block_words(&last));
+        last = [0; 64];
     }
-    put_length(&mut words, value.len());
-    state.compress(&words);
+    last[BEFORE_LENGTH..].copy_from_slice(&(len as u64).wrapping_mul(8).to_be_bytes());
+    state.compress(&block_words(&last));
 }
 
 /// Writes the bytes of `words` over the first bytes of `out`; the others stay.
@@ -109,9 +112,10 @@ pub fn digest_into<C: Compression>(value: &[u8], out: &mut [u8; 32])
     ensures padding { PaddingRight value.now }
 {
     let mut state = C::start();
-    for i in 0..value.len() / 64 {
-        state.compress(&whole_block(value, i));
+    let (blocks, rest) = value.as_chunks::<64>();
+    for bytes in blocks {
+        state.compress(&block_words(bytes));
     }
-    compress_end(&mut state, value);
+    compress_end(&mut state, rest, value.len());
     write_words(state.words(), out);
 }

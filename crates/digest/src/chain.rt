@@ -98,11 +98,7 @@ fn write_words(words: &[u32], out: &mut [u8; 32])
     ensures { out.new ≡ flat_map be4 words.now ++ drop (4 * length words.now) out.old }
 {
     for (i, word) in words.iter().enumerate() {
-        let [a, b, c, d] = word.to_be_bytes();
-        out[4 * i] = a;
-        out[4 * i + 1] = b;
-        out[4 * i + 2] = c;
-        out[4 * i + 3] = d;
+        out[4 * i..4 * i + 4].copy_from_slice(&word.to_be_bytes());
     }
 }
 

@@ -1,5 +1,5 @@
 -- The chaining of the blocks of a padded message.
-use Rattle.std.proofs.Common.{◌≡◌, ℕ, ◌+◌, ◌-◌, ◌*◌, ◌/◌, ◌%◌, ◌<◌, ◌≤◌, List, ◌∷◌, ◌++◌, length, get_or, take, drop, replicate, sym, refl, ap, ◌∙◌, zero-add, arith}
+use Rattle.std.proofs.Common.{◌≡◌, ℕ, ◌+◌, ◌-◌, ◌*◌, ◌/◌, ◌%◌, ◌<◌, ◌≤◌, List, ◌∷◌, ◌++◌, length, get_or, take, drop, replicate, sym, ap, ◌∙◌, arith}
 use Rattle.std.proofs.lemmas.List.{append_assoc, length-append, length-replicate, get_or_append_left, get_or-append_right, replicate-append-replicate, take_at}
 use Rattle.digest.specs.Rounds.{turned}
 use Rattle.digest.specs.Message.{be8, zeros, ending, padded, block, chained}
@@ -24,7 +24,7 @@ module _ (compressed : List ℕ → List ℕ → List ℕ) (rest : List ℕ) (n 
       let front = rest ++ (128 ∷ replicate (zeros n) 0) in
       let long : length front ≡ 56 = simp (length-append, length-replicate) (omega (arith, left)) in
       let split : mark ≡ front ++ replicate 8 0 =
-        ap (λ j. rest ++ (128 ∷ replicate j 0)) gap ∙ ap (λ zs. rest ++ (128 ∷ zs)) (sym (replicate-append-replicate (zeros n) 8 0)) ∙ sym (append_assoc rest (128 ∷ replicate (zeros n) 0) (replicate 8 0)) in
+      ap (λ j. rest ++ (128 ∷ replicate j 0)) gap ∙ ap (λ zs. rest ++ (128 ∷ zs)) (sym (replicate-append-replicate (zeros n) 8 0)) ∙ sym (append_assoc rest (128 ∷ replicate (zeros n) 0) (replicate 8 0)) in
       let taken : take 56 mark ≡ front = ap (take 56) split ∙ take_at front (replicate 8 0) 56 long in
       let whole : take 56 mark ++ be8 (8 * n) ≡ ending rest n = ap (λ xs. xs ++ be8 (8 * n)) taken ∙ append_assoc rest (128 ∷ replicate (zeros n) 0) (be8 (8 * n)) in
       rw count (ap (λ xs. compressed h (block xs 0)) whole)
@@ -37,12 +37,12 @@ module _ (compressed : List ℕ → List ℕ → List ℕ) (rest : List ℕ) (n 
       let last = replicate 56 0 ++ be8 (8 * n) in
       let long : length mark ≡ 64 = simp (length-append, length-replicate) (omega (arith, left)) in
       let zeros_are : replicate (zeros n) 0 ++ be8 (8 * n) ≡ replicate (63 - length rest) 0 ++ last =
-        ap (λ j. replicate j 0 ++ be8 (8 * n)) gap ∙ ap (λ zs. zs ++ be8 (8 * n)) (sym (replicate-append-replicate (63 - length rest) 56 0)) ∙ append_assoc (replicate (63 - length rest) 0) (replicate 56 0) (be8 (8 * n)) in
+      ap (λ j. replicate j 0 ++ be8 (8 * n)) gap ∙ ap (λ zs. zs ++ be8 (8 * n)) (sym (replicate-append-replicate (63 - length rest) 56 0)) ∙ append_assoc (replicate (63 - length rest) 0) (replicate 56 0) (be8 (8 * n)) in
       let whole : ending rest n ≡ mark ++ last = ap (λ zs. rest ++ (128 ∷ zs)) zeros_are ∙ sym (append_assoc rest (128 ∷ replicate (63 - length rest) 0) last) in
       let first : block mark 0 ≡ block (mark ++ last) 0 = block_same mark (mark ++ last) 0 0 (λ k low. sym (get_or_append_left mark last 0 (64 * 0 + k) (omega (arith, long)))) in
       let second : block last 0 ≡ block (mark ++ last) 1 =
-        block_same last (mark ++ last) 0 1
-        (λ k low. let at : 64 * 1 + k - 64 ≡ 64 * 0 + k = omega arith in sym (get_or-append_right mark last 64 (64 * 1 + k) 0 long (omega arith) ∙ ap (λ j. get_or last j 0) at)) in
+      block_same last (mark ++ last) 0 1
+      (λ k low. let at : 64 * 1 + k - 64 ≡ 64 * 0 + k = omega arith in sym (get_or-append_right mark last 64 (64 * 1 + k) 0 long (omega arith) ∙ ap (λ j. get_or last j 0) at)) in
       rw count (rw whole (ap (λ b. compressed (compressed h b) (block last 0)) first ∙ ap (compressed (compressed h (block (mark ++ last) 0))) second))
 
 -- from the initial hash value to that after the last block

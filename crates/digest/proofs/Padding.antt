@@ -1,13 +1,12 @@
 -- The words of blocks, and the bytes of a padded message.
-use Rattle.std.proofs.Common.{◌≡◌, ℕ, zero, suc, ◌+◌, ◌-◌, ◌*◌, ◌/◌, ◌%◌, ◌^◌, ◌<◌, ◌≤◌, List, [], ◌∷◌, ◌++◌, length, get_or, take, drop, set, replicate, sym, refl, ap, ◌∙◌, add-zero, zero-add, arith, lit<}
+use Rattle.std.proofs.Common.{◌≡◌, ℕ, zero, suc, ◌+◌, ◌-◌, ◌*◌, ◌/◌, ◌%◌, ◌^◌, ◌<◌, List, [], ◌∷◌, ◌++◌, length, get_or, drop, set, replicate, sym, refl, ap, ◌∙◌, add-zero, zero-add, arith, lit<}
 use Rattle.std.specs.Int.{bytes_high_first}
 use Rattle.std.specs.Simd.{first_chunks}
-use Rattle.std.proofs.lemmas.List.{append_assoc, length-append, length-replicate, get_or_append_left, get_or-append-add, get_or-drop, get_or-take, drop-append-le, drop-replicate, replicate-append-replicate, set-append_right, take_at}
-use Rattle.std.proofs.lemmas.Nat.{shr-shr, mod-pow-add}
+use Rattle.std.proofs.lemmas.List.{length-append, length-replicate, get_or_append_left, get_or-drop, get_or-take, drop-append-le, drop-replicate, set-append_right, take_at}
 use Rattle.std.proofs.Math.Nat.{mul-suc}
 use Rattle.std.proofs.lemmas.List.FromFn.{get_or-map-range_with_len, fill_by_all}
-use Rattle.digest.specs.Words.{be4, word}
-use Rattle.digest.specs.Message.{be8, zeros, ending, padded, PaddingRight, block}
+use Rattle.digest.specs.Words.{word}
+use Rattle.digest.specs.Message.{be8, ending, padded, PaddingRight, block}
 
 pub length_padded : (m : List ℕ) → length (padded m) ≡ 64 * (length m / 64 + (length m % 64 + 72) / 64)
 unfolding padded
@@ -37,9 +36,9 @@ block_same xs ys i j same =
     (λ t low. get_or-map-range_with_len (λ t. word xs (16 * i + t)) 0 16 t t 0 low (zero-add t)
     ∙ word_same xs ys (16 * i + t) (16 * j + t)
     (λ k small.
-      let left : 4 * (16 * i + t) + k ≡ 64 * i + (4 * t + k) = omega arith in
-      let right : 4 * (16 * j + t) + k ≡ 64 * j + (4 * t + k) = omega arith in
-      rw left (rw right (same (4 * t + k) (omega arith)))))
+    let left : 4 * (16 * i + t) + k ≡ 64 * i + (4 * t + k) = omega arith in
+    let right : 4 * (16 * j + t) + k ≡ 64 * j + (4 * t + k) = omega arith in
+    rw left (rw right (same (4 * t + k) (omega arith)))))
 
 -- the bytes of a chunk
 chunk_byte : (n count : ℕ) (xs : List ℕ) (i k : ℕ) → i < count → k < n → get_or (get_or (first_chunks n count xs) i []) k 0 ≡ get_or xs (n * i + k) 0
@@ -67,8 +66,8 @@ ending_block m i =
     let rest = ending (drop from m) (length m) in
     block_same rest (padded m) i (length m / 64 + i)
     (λ k low.
-      let e : from + (64 * i + k) ≡ 64 * (length m / 64 + i) + k = omega arith in
-      ap (λ bs. get_or bs (64 * i + k) 0) (sym (drop-append-le from m _ (omega arith))) ∙ get_or-drop from (padded m) (64 * i + k) 0 ∙ ap (λ j. get_or (padded m) j 0) e)
+    let e : from + (64 * i + k) ≡ 64 * (length m / 64 + i) + k = omega arith in
+    ap (λ bs. get_or bs (64 * i + k) 0) (sym (drop-append-le from m _ (omega arith))) ∙ get_or-drop from (padded m) (64 * i + k) 0 ∙ ap (λ j. get_or (padded m) j 0) e)
 
 -- the last bytes of a message with the mark after them, in a block of zeros
 pub marked : (rest : List ℕ) → length rest < 64 → set (rest ++ drop (length rest) (replicate 64 0)) (length rest) 128 ≡ rest ++ (128 ∷ replicate (63 - length rest) 0)

@@ -10,6 +10,7 @@ use super::rounds::compressed;
 
 /// A hash value under way, which is also the working variables of the rounds: its words, its rounds and its message
 /// schedule are all that sets SHA-1 and SHA-256 apart.
+// Its words are behind methods: over a `[u32; N]` the one implementation of `DigestKind` for all kinds could not name N.
 pub trait Compression: Copy {
     /// How many bytes a digest has.
     const WIDTH: usize;
@@ -97,6 +98,7 @@ fn write_words(words: &[u32], out: &mut [u8; 32])
     requires { length words.now ≤ 8 }
     ensures { out.new ≡ flat_map be4 words.now ++ drop (4 * length words.now) out.old }
 {
+    // By places: what `as_chunks_mut` lends is not known to the proof once it is back.
     for (i, word) in words.iter().enumerate() {
         out[4 * i..4 * i + 4].copy_from_slice(&word.to_be_bytes());
     }

@@ -5,7 +5,7 @@ use Rattle.digest.specs.Rounds.{turned, grown, compression}
 use Rattle.digest.specs.Message.{padded, block, digest_of}
 use Rattle.digest.specs.Widths.{length_digest}
 use Rattle.sha1_digest.specs.Constants.{initial}
-use Rattle.sha1_digest.specs.Sha1.{mixed, round, compressed, sha1, DigestOfAbc}
+use Rattle.sha1_digest.specs.Sha1.{mixed, round, sha1, DigestOfAbc}
 
 pub length_sha1 : (m : List ℕ) → length (sha1 m) ≡ 20
 length_sha1 m = length_digest initial round mixed 80 5 refl m 20 refl

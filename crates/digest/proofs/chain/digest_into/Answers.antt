@@ -2,7 +2,7 @@ use Rattle.std.proofs.Common.{◌≡◌, ◌*◌, ◌/◌, ◌++◌, [], length,
 use Rattle.std.specs.List.{flat_map}
 use Rattle.digest.specs.Words.{be4}
 use Rattle.digest.specs.Rounds.{compression}
-use Rattle.digest.specs.Message.{block, padded, digest_of}
+use Rattle.digest.specs.Message.{block, digest_of}
 use Rattle.digest.proofs.Padding.{padding_right, chunk_block}
 use Rattle.digest.proofs.Chaining.{chained_none, chained_more, chained_all}
 use Rattle.digest.proofs.chain.digest_into.Goals as goal

@@ -1,26 +1,22 @@
+//! A line as `sha256sum` writes and `sha256sum -c` reads it: a digest and the name of its file.
 #![tactic(auto)]
-// A line as `sha256sum` writes and `sha256sum -c` reads it: a digest and the name of its file.
+
 ghost use Rattle.std.specs.Prelude.{◌≡◌, ◌++◌, IfOk, OnOk};
 ghost use Rattle.checksum.specs.Line.{escape, escaped, has_special, is_special, line_of};
 
 use std::alloc::{AllocError, Global};
 
-// Whether a byte of a name would be misread in a line.
+/// Whether a byte of a name would be misread in a line.
 fn is_special(b: u8) -> bool
     ensures { result ≡ is_special b }
 {
-    b == b'\\' || b == b'\n' || b == b'\r'
+    matches!(b, b'\\' | b'\n' | b'\r')
 }
 
 fn has_special(name: &[u8]) -> bool
     ensures { result ≡ has_special name.now }
 {
-    for b in name {
-        if is_special(*b) {
-            return true;
-        }
-    }
-    false
+    name.iter().any(|b| is_special(*b))
 }
 
 fn push_escaped(text: &mut Vec<u8>, b: u8) -> Result<(), AllocError>
@@ -53,7 +49,7 @@ pub fn line(heap: Global, digest: &[u8], name: &[u8]) -> Result<Vec<u8>, AllocEr
         text.push(b'\\')?;
     }
     let digits = hexadecimal::encode(heap, digest)?;
-    text.extend_from_slice(digits.as_slice())?;
+    text.extend_from_slice(digits.as_bytes())?;
     text.extend_from_slice(b"  ")?;
     let safe_name = escape_name(heap, name)?;
     text.extend_from_slice(safe_name.as_slice())?;

@@ -2,6 +2,3 @@ pub mod Turns
 pub mod Window
 pub mod Padding
 pub mod Chaining
-pub mod Bytes
-pub mod Widths
-pub mod Kept

@@ -19,6 +19,12 @@ unfolding turned
 turned_on turn x from zero = rw add-zero
 turned_on turn x from (suc n) = rw add-suc (ap (λ y. turn y (from + n)) (turned_on turn x from n))
 
+-- turns alike
+pub turned_same : {X : Type 0} (turn other : X → ℕ → X) (x : X) (n : ℕ) → ((y : X) (t : ℕ) → turn y t ≡ other y t) → turned turn x n ≡ turned other x n
+unfolding turned
+turned_same turn other x zero same = refl
+turned_same turn other x (suc t) same = ap (λ y. turn y t) (turned_same turn other x t same) ∙ same (turned other x t) t
+
 pub turned_from : {X : Type 0} (turn : X → ℕ → X) (x : X) (from n : ℕ) {y z : X} → y ≡ turned turn x from → z ≡ turned (λ s t. turn s (from + t)) y n → z ≡ turned turn x (from + n)
 turned_from turn x from n before more = more ∙ ap (λ y. turned (λ s t. turn s (from + t)) y n) before ∙ turned_on turn x from n
 

@@ -3,12 +3,8 @@ use Rattle.std.proofs.Common.{◌≡◌, ℕ, zero, suc, ◌+◌, ◌-◌, ◌%�
 use Rattle.std.proofs.lemmas.List.{get_or-take, get_or-set_same, get_or-set_other, length-set}
 use Rattle.std.proofs.lemmas.Bool.{lt-ltb, le-ltb, cases_lt, cases_eq}
 use Rattle.digest.specs.Words.{sums}
-use Rattle.digest.specs.Rounds.{turned, scheduled, schedule, rounds, compression, renewed, step}
+use Rattle.digest.specs.Rounds.{turned, scheduled, schedule, rounds, compression, renewed, step, ReadsSixteen}
 use Rattle.digest.proofs.Turns.{take_grown, getD_grown}
-
--- the mix reads no word but the sixteen before its own
-abbrev pub ReadsSixteen : ((ℕ → ℕ) → ℕ) → Type 0
-ReadsSixteen mixed = (f g : ℕ → ℕ) → ((k : ℕ) → 0 < k → k ≤ 16 → f k ≡ g k) → mixed f ≡ mixed g
 
 module _ (mixed : (ℕ → ℕ) → ℕ) (n : ℕ) (block : List ℕ) where
   getD_schedule : (t : ℕ) → t < n → get_or (schedule mixed n block) t 0 ≡ scheduled mixed block (take t (schedule mixed n block)) t
@@ -82,6 +78,6 @@ module _ (round : List ℕ → ℕ → ℕ → List ℕ) (mixed : (ℕ → ℕ) 
       )
 
   -- the sums of the working variables after the last round and the hash value are the compression
-  pub compression_window : (size : ℕ) (v w : List ℕ) → (v, w) ≡ turned (step round mixed) (h, block) n → sums size v h ≡ compression round mixed n size h block
+  pub compression_window : (size : ℕ) (v w : List ℕ) (t : ℕ) → t ≡ n → (v, w) ≡ turned (step round mixed) (h, block) t → sums size v h ≡ compression round mixed n size h block
   unfolding compression
-  compression_window size v w e = ap (λ v. sums size v h) (ap (λ s. s.0) e ∙ (turned_holds n (omega arith)).0)
+  compression_window size v w t all e = ap (λ v. sums size v h) (ap (λ s. s.0) (rw all at e) ∙ (turned_holds n (omega arith)).0)

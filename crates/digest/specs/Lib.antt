@@ -2,3 +2,4 @@ pub mod Words
 pub mod Rounds
 pub mod Message
 pub mod Value
+pub mod Widths

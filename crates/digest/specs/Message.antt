@@ -16,10 +16,14 @@ zeros n = (119 - n % 64) % 64
 abbrev pub marked : List ℕ → List ℕ
 marked m = m ++ (128 ∷ [])
 
+-- what a message ends as, from its last bytes on: these, a bit 1, bits 0, and the length in bits of the whole message
+abbrev pub ending : List ℕ → ℕ → List ℕ
+ending rest n = rest ++ (128 ∷ (replicate (zeros n) 0 ++ be8 (8 * n)))
+
 -- The padded message: a bit 1, bits 0, and the message's length in bits. The standard allows no message of 2 ^ 64 bits
 -- and more; here such a message too has a digest, for which the low 64 bits of its length are taken.
 unfoldable pub padded : List ℕ → List ℕ
-padded m = m ++ (128 ∷ (replicate (zeros (length m)) 0 ++ be8 (8 * length m)))
+padded m = ending m (length m)
 
 -- The padding is right: the padded message begins with the message, has whole blocks of 64 bytes, and not one block
 -- more than the message, the mark and the length need.

@@ -1,5 +1,5 @@
 -- Rounds and the message schedule, which SHA-1 and SHA-256 share, as FIPS 180-4 defines them.
-use Rattle.std.specs.Prelude.{ℕ, zero, suc, ◌-◌, ◌%◌, cond, List, [], ◌∷◌, ◌++◌, nat_lt, slice_index, slice_set}
+use Rattle.std.specs.Prelude.{ℕ, zero, suc, ◌-◌, ◌%◌, ◌<◌, ◌≤◌, ◌≡◌, cond, List, [], ◌∷◌, ◌++◌, nat_lt, slice_index, slice_set}
 use Rattle.digest.specs.Words.{sums}
 
 -- what the turns 0 to n - 1 make of x
@@ -37,3 +37,7 @@ renewed mixed w t = cond (nat_lt t 16) w (slice_set w (t % 16) (mixed (λ k. sli
 -- the round t, over working variables and the sixteen words
 unfoldable pub step : (List ℕ → ℕ → ℕ → List ℕ) → ((ℕ → ℕ) → ℕ) → List ℕ × List ℕ → ℕ → List ℕ × List ℕ
 step round mixed s t = (round s.0 t (slice_index (renewed mixed s.1 t) (t % 16)), renewed mixed s.1 t)
+
+-- a mix reads no word but the sixteen before its own
+abbrev pub ReadsSixteen : ((ℕ → ℕ) → ℕ) → Type 0
+ReadsSixteen mixed = (f g : ℕ → ℕ) → ((k : ℕ) → 0 < k → k ≤ 16 → f k ≡ g k) → mixed f ≡ mixed g

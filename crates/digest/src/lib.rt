@@ -1,10 +1,10 @@
-//! Digests: the interface of a digest function, a digest as it is kept, and the padding and chaining that SHA-1 and
-//! SHA-256 share.
+//! Digests: the interface of a digest function, a digest as it is kept, and the padding, chaining and rounds that
+//! SHA-1 and SHA-256 share.
 #![tactic(auto)]
 
 mod blocks;
 pub mod chain;
 pub mod kind;
-mod unrolled;
+mod rounds;
 pub mod value;
 pub mod words;

@@ -6,7 +6,7 @@ ghost use Rattle.digest.specs.Value.{digest_bytes, is_digest, as_digest};
 use super::kind::DigestKind;
 
 /// A digest of 20 or of 32 bytes. No other width can be represented.
-#[derive(Clone, Copy)]
+#[derive(Clone, Copy, Debug, PartialEq, Eq)]
 pub enum Digest {
     Short([u8; 20]),
     Long([u8; 32]),
@@ -28,13 +28,9 @@ impl Digest {
     pub fn from_bytes(bytes: &[u8]) -> Option<Digest>
         ensures { option_map digest_bytes result ≡ as_digest bytes.now }
     {
-        if bytes.len() == 20 {
-            let mut short = [0; 20];
-            short.copy_from_slice(bytes);
+        if let Ok(short) = <[u8; 20]>::try_from(bytes) {
             Some(Digest::Short(short))
-        } else if bytes.len() == 32 {
-            let mut long = [0; 32];
-            long.copy_from_slice(bytes);
+        } else if let Ok(long) = <[u8; 32]>::try_from(bytes) {
             Some(Digest::Long(long))
         } else {
             None
@@ -47,18 +43,13 @@ impl Digest {
     {
         let mut out = [0; 32];
         K::digest(value, &mut out);
-        match Digest::from_bytes(&out[0..K::width_in_bytes()]) {
-            Some(digest) => digest,
-            None => unreachable(),
-        }
+        Digest::from_bytes(&out[..K::WIDTH]).unwrap()
     }
 
     /// Whether this is the digest of `value`. A digest of another width is not.
     pub fn matches<K: DigestKind>(&self, value: &[u8]) -> bool
         ensures { Decides result (digest_bytes self.now ≡ K.digested value.now) }
     {
-        let mut out = [0; 32];
-        K::digest(value, &mut out);
-        self.as_bytes() == &out[0..K::width_in_bytes()]
+        self.as_bytes() == Digest::of::<K>(value).as_bytes()
     }
 }

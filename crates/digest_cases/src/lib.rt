@@ -1,7 +1,6 @@
 //! Tests of the digests at many values: the standard's examples, and what other tools give.
 #![tactic(auto)]
 
-mod hex;
 mod pattern;
 #[cfg(test)]
 mod tests;

@@ -1,11 +1,14 @@
 //! A value in which few bytes are alike.
 ghost use Rattle.std.specs.Prelude.{◌≡◌, ℕ, ◌+◌, ◌*◌, ◌%◌, ◌<◌, slice_index};
 
-/// Makes the byte at `i` the rest of `i * 7 + 3` by 251.
-pub(crate) fn fill(bytes: &mut [u8; 1024])
-    ensures { (k : ℕ) → k < 1024 → slice_index bytes.new k ≡ (k * 7 + 3) % 251 }
+/// The bytes of which the one at `i` is the rest of `i * 7 + 3` by 251.
+pub(crate) fn pattern() -> [u8; 1024]
+    ensures { (k : ℕ) → k < 1024 → slice_index result k ≡ (k * 7 + 3) % 251 }
 {
-    for i in 0..1024 {
-        bytes[i] = ((i * 7 + 3) % 251) as u8;
-    }
+    std::array::from_fn(
+        |i: usize| -> u8
+            requires { i < 1024 }
+            ensures { result ≡ (i * 7 + 3) % 251 }
+        { ((i * 7 + 3) % 251) as u8 },
+    )
 }

@@ -1,8 +1,10 @@
 //! Each expected digest is the standard's, or what `sha1sum` and `sha256sum` print.
-use super::hex::is_hex;
-use super::pattern::fill;
+use super::pattern::pattern;
 use digest::value::Digest;
+use hexadecimal::is_encoded;
+use sha1_digest::kind::Sha1;
 use sha1_digest::sha1;
+use sha256::kind::Sha256;
 use sha256::sha256;
 use std::process::Abort;
 use std::test::Fail;
@@ -78,8 +80,8 @@ const CASES: [Case; 12] = [
 ];
 
 fn check_digests(rt: &impl Abort, value: &[u8], short: &[u8], long: &[u8]) {
-    assert!(rt; is_hex(&sha1(value), short));
-    assert!(rt; is_hex(&sha256(value), long));
+    assert!(rt; is_encoded(&sha1(value), short));
+    assert!(rt; is_encoded(&sha256(value), long));
 }
 
 #[test]
@@ -120,8 +122,7 @@ fn standard_examples(rt: HostRuntime) -> Result<(), Fail> {
 
 #[test]
 fn lengths_around_blocks(rt: HostRuntime) {
-    let mut bytes = [0; 1024];
-    fill(&mut bytes);
+    let bytes = pattern();
     for case in &CASES {
         assert!(rt; case.length <= 1024);
         let short = case.sha1;
@@ -147,24 +148,24 @@ fn widths(rt: HostRuntime) {
 
 #[test]
 fn matching(rt: HostRuntime) {
-    let short = Digest::of::<sha1_digest::kind::Sha1>(b"abc");
-    let long = Digest::of::<sha256::kind::Sha256>(b"abc");
+    let short = Digest::of::<Sha1>(b"abc");
+    let long = Digest::of::<Sha256>(b"abc");
     assert!(rt;
-        is_hex(
+        is_encoded(
             short.as_bytes(),
             b"a9993e364706816aba3e25717850c26c9cd0d89d",
         )
     );
     assert!(rt;
-        is_hex(
+        is_encoded(
             long.as_bytes(),
             b"ba7816bf8f01cfea414140de5dae2223b00361a396177a9cb410ff61f20015ad",
         )
     );
-    assert!(rt; short.matches::<sha1_digest::kind::Sha1>(b"abc"));
-    assert!(rt; long.matches::<sha256::kind::Sha256>(b"abc"));
-    assert!(rt; !short.matches::<sha1_digest::kind::Sha1>(b"abd"));
-    assert!(rt; !long.matches::<sha256::kind::Sha256>(b"ab"));
-    assert!(rt; !short.matches::<sha256::kind::Sha256>(b"abc"));
-    assert!(rt; !long.matches::<sha1_digest::kind::Sha1>(b"abc"));
+    assert!(rt; short.matches::<Sha1>(b"abc"));
+    assert!(rt; long.matches::<Sha256>(b"abc"));
+    assert!(rt; !short.matches::<Sha1>(b"abd"));
+    assert!(rt; !long.matches::<Sha256>(b"ab"));
+    assert!(rt; !short.matches::<Sha256>(b"abc"));
+    assert!(rt; !long.matches::<Sha1>(b"abc"));
 }

@@ -2,7 +2,10 @@
 #![tactic(auto)]
 
 use digest::kind::DigestKind;
-use options::Options;
+use digest::value::Digest;
+use options::{Algorithm, Options};
+use sha1_digest::kind::Sha1;
+use sha256::kind::Sha256;
 use std::io::{Read, Write};
 use std::process::ExitCode;
 use std::{fs, io};
@@ -28,25 +31,23 @@ fn print_line<K: DigestKind>(rt: &HostRuntime, name: &str) -> io::Result<bool> {
             return Ok(false);
         }
     };
-    let mut out = [0; 32];
-    K::digest(bytes.as_slice(), &mut out);
-    let line = checksum::line(rt.alloc(), &out[0..K::width_in_bytes()], name.as_bytes())?;
+    let digest = Digest::of::<K>(bytes.as_slice());
+    let line = checksum::line(rt.alloc(), digest.as_bytes(), name.as_bytes())?;
     rt.stdout().write_all(line.as_slice())?;
     Ok(true)
 }
 
+// Whether the line of each file was printed.
 fn print_lines<K: DigestKind>(rt: &HostRuntime, names: &[String]) -> io::Result<bool> {
     let mut all = true;
     for name in names {
-        if !print_line::<K>(rt, name.as_str())? {
-            all = false;
-        }
+        all &= print_line::<K>(rt, name.as_str())?;
     }
     Ok(all)
 }
 
 fn run(rt: &HostRuntime) -> io::Result<bool> {
-    let options = match options::read(rt)? {
+    let Options { algorithm, names } = match options::read(rt)? {
         Ok(options) => options,
         Err(word) => {
             eprintln!(rt; "fingerprint: unknown option {word}")?;
@@ -54,11 +55,9 @@ fn run(rt: &HostRuntime) -> io::Result<bool> {
             return Ok(false);
         }
     };
-    let Options { sha1, names } = options;
-    if sha1 {
-        print_lines::<sha1_digest::kind::Sha1>(rt, names.as_slice())
-    } else {
-        print_lines::<sha256::kind::Sha256>(rt, names.as_slice())
+    match algorithm {
+        Algorithm::Sha1 => print_lines::<Sha1>(rt, names.as_slice()),
+        Algorithm::Sha256 => print_lines::<Sha256>(rt, names.as_slice()),
     }
 }
 

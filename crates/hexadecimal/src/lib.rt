@@ -1,10 +1,13 @@
+//! Bytes as hexadecimal text.
 #![tactic(auto)]
-// Bytes as hexadecimal text.
+
 ghost use Rattle.std.specs.Prelude.{◌≡◌, ◌<◌, IfOk, Decides};
+ghost use Rattle.std.specs.String.{string_bytes};
 ghost use Rattle.hexadecimal.specs.Hex.{hex_digit, hex};
 
 use std::alloc::{AllocError, Global};
 
+/// The code of a digit below 16.
 fn digit(n: u8) -> u8
     requires { n < 16 }
     ensures { result ≡ hex_digit n }
@@ -13,13 +16,13 @@ fn digit(n: u8) -> u8
 }
 
 /// Two digits for each byte, the higher half first, in lower case.
-pub fn encode(heap: Global, bytes: &[u8]) -> Result<Vec<u8>, AllocError>
-    ensures { IfOk result (λ text. text.items ≡ hex bytes.now) }
+pub fn encode(heap: Global, bytes: &[u8]) -> Result<String, AllocError>
+    ensures { IfOk result (λ text. string_bytes text ≡ hex bytes.now) }
 {
-    let mut text = Vec::new(heap);
+    let mut text = String::new(heap);
     for b in bytes {
-        text.push(digit(*b / 16))?;
-        text.push(digit(*b % 16))?;
+        text.push(char::from(digit(*b / 16)))?;
+        text.push(char::from(digit(*b % 16)))?;
     }
     Ok(text)
 }
@@ -31,13 +34,7 @@ pub fn is_encoded(bytes: &[u8], text: &[u8]) -> bool
     match (bytes, text) {
         ([], []) => true,
         ([byte, bytes @ ..], [high, low, text @ ..]) => {
-            if *high != digit(*byte / 16) {
-                return false;
-            }
-            if *low != digit(*byte % 16) {
-                return false;
-            }
-            is_encoded(bytes, text)
+            *high == digit(*byte / 16) && *low == digit(*byte % 16) && is_encoded(bytes, text)
         }
         _ => false,
     }

@@ -5,10 +5,7 @@ use refusal::Refusal;
 /// A heading, and bytes in hexadecimal.
 pub(super) fn hex(rt: &HostRuntime, heading: &str, bytes: &[u8]) -> anyhow::Result<()> {
     let text = hexadecimal::encode(rt.alloc(), bytes)?;
-    match std::str::from_utf8(text.as_slice()) {
-        Ok(text) => println!(rt; "{heading}{text}")?,
-        Err(_) => println!(rt; "{heading}")?,
-    }
+    println!(rt; "{heading}{text}")?;
     Ok(())
 }
 

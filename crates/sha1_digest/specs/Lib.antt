@@ -1,3 +1,4 @@
 pub mod Constants
 pub mod Sha1
 pub mod Digests
+pub mod Schedule

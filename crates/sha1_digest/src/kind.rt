@@ -1,15 +1,14 @@
 //! SHA-1 as a digest function.
-ghost use Rattle.std.specs.Prelude.{◌≡◌};
+ghost use Rattle.std.specs.Prelude.{◌≡◌, refl};
 ghost use Rattle.sha1_digest.specs.Constants.{initial as first};
-ghost use Rattle.sha1_digest.specs.Sha1.{compressed as compressed_block, sha1};
+ghost use Rattle.sha1_digest.specs.Sha1.{round as rounded, mixed as mixed_words};
+ghost use Rattle.sha1_digest.specs.Schedule.{reads_sixteen};
 ghost use Rattle.std.proofs.Common.{rules};
-ghost use Rattle.sha1_digest.specs.Digests.{length_sha1, sha1_small};
 
-use super::constants::INITIAL;
-use super::rounds;
-use digest::chain;
+use super::constants::{INITIAL, K};
+use super::rounds::combine;
 use digest::chain::Compression;
-use digest::kind::DigestKind;
+use digest::words::sums;
 
 /// A SHA-1 hash value under way.
 #[derive(Clone, Copy)]
@@ -18,48 +17,66 @@ pub struct Sha1 {
 }
 
 impl Compression for Sha1 {
+    const WIDTH: usize = 20;
+
+    const ROUNDS: usize = 80;
+
+    ghost WIDTH = { 20 };
+
+    ghost ROUNDS = { 80 };
+
     ghost hash = { λ s. s.words };
 
     ghost size = { 5 };
 
     ghost initial = { first };
 
-    ghost compressed = { compressed_block };
+    ghost round = { rounded };
 
-    ghost small = { Prim.search rules };
+    ghost mixed = { mixed_words };
+
+    ghost widths = { Prim.search rules };
+
+    ghost whole = { Prim.search rules };
+
+    ghost begins = { refl };
+
+    ghost counts = { Prim.search rules };
+
+    ghost reads = { reads_sixteen };
 
     fn start() -> Sha1 {
         Sha1 { words: INITIAL }
     }
 
-    fn compress(&mut self, words: &[u32; 16]) {
-        let next = rounds::compress(self.words, words);
-        self.words = next;
+    fn later_word(window: &[u32; 16], t: usize) -> u32 {
+        let words = window[(t - 3) % 16]
+            ^ window[(t - 8) % 16]
+            ^ window[(t - 14) % 16]
+            ^ window[(t - 16) % 16];
+        words.rotate_left(1)
+    }
+
+    fn round(self, t: usize, w: u32) -> Sha1 {
+        let [a, b, c, d, e] = self.words;
+        let x = a
+            .rotate_left(5)
+            .wrapping_add(combine(t, b, c, d))
+            .wrapping_add(e)
+            .wrapping_add(K[t / 20])
+            .wrapping_add(w);
+        Sha1 {
+            words: [x, a, b.rotate_left(30), c, d],
+        }
+    }
+
+    fn plus(self, h: Sha1) -> Sha1 {
+        Sha1 {
+            words: sums(self.words, h.words),
+        }
     }
 
     fn words(&self) -> &[u32] {
         &self.words
-    }
-}
-
-impl DigestKind for Sha1 {
-    const WIDTH: usize = 20;
-
-    ghost width = { 20 };
-
-    ghost digested = { sha1 };
-
-    ghost widths = { Prim.search rules };
-
-    ghost wide = { length_sha1 };
-
-    ghost bytes = { sha1_small };
-
-    fn width_in_bytes() -> usize {
-        Self::WIDTH
-    }
-
-    fn digest(value: &[u8], out: &mut [u8; 32]) {
-        chain::digest_into::<Sha1>(value, out);
     }
 }

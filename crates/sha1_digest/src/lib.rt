@@ -18,7 +18,5 @@ pub fn sha1(value: &[u8]) -> [u8; 20]
 {
     let mut out = [0; 32];
     Sha1::digest(value, &mut out);
-    let mut short = [0; 20];
-    short.copy_from_slice(&out[0..20]);
-    short
+    <[u8; 20]>::try_from(&out[..20]).unwrap()
 }

@@ -1,3 +1,4 @@
 pub mod Constants
 pub mod Sha256
 pub mod Digests
+pub mod Schedule

@@ -6,17 +6,24 @@ use Rattle.digest.specs.Rounds.{compression}
 use Rattle.digest.specs.Message.{digest_of}
 use Rattle.sha256.specs.Constants.{constants, initial}
 
+-- the sum of three rotations, and of two rotations and a shift
+abbrev pub Σ : ℕ → ℕ → ℕ → ℕ → ℕ
+Σ a b c x = bit_xor (bit_xor (rotr a x) (rotr b x)) (rotr c x)
+
+abbrev pub σ : ℕ → ℕ → ℕ → ℕ → ℕ
+σ a b c x = bit_xor (bit_xor (rotr a x) (rotr b x)) (shr c x)
+
 abbrev pub Σ0 : ℕ → ℕ
-Σ0 x = bit_xor (bit_xor (rotr 2 x) (rotr 13 x)) (rotr 22 x)
+Σ0 = Σ 2 13 22
 
 abbrev pub Σ1 : ℕ → ℕ
-Σ1 x = bit_xor (bit_xor (rotr 6 x) (rotr 11 x)) (rotr 25 x)
+Σ1 = Σ 6 11 25
 
 abbrev pub σ0 : ℕ → ℕ
-σ0 x = bit_xor (bit_xor (rotr 7 x) (rotr 18 x)) (shr 3 x)
+σ0 = σ 7 18 3
 
 abbrev pub σ1 : ℕ → ℕ
-σ1 x = bit_xor (bit_xor (rotr 17 x) (rotr 19 x)) (shr 10 x)
+σ1 = σ 17 19 10
 
 -- a word of the message schedule, from the words 2, 7, 15 and 16 places back
 abbrev pub mixed : (ℕ → ℕ) → ℕ

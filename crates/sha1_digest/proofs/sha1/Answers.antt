@@ -7,7 +7,8 @@ use Rattle.sha1_digest.proofs.sha1.Goals as goal
 pub returns : goal.returns
 returns c =
     let m = c.args.value.now in
+    let chunk = rw c.unwrap.ensures at c.try_from.ensures.1 in
     record {
-      value = c.copy_from_slice.ensures.after ∙ ap (take 20) c.digest.ensures ∙ take_at (sha1 m) _ 20 (length_sha1 m);
+      value = chunk.same ∙ ap (take 20) c.digest.ensures ∙ take_at (sha1 m) _ 20 (length_sha1 m);
       example = digest_of_abc;
     }

@@ -1,7 +1,0 @@
-use Rattle.std.proofs.Common.{rules}
-use Rattle.sha1_digest.specs.Sha1.{round}
-use Rattle.sha1_digest.proofs.rounds.round.Goals as goal
-
-pub returns : goal.returns
-unfolding round
-returns c = search rules

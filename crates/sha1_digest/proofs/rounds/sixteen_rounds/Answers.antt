@@ -1,7 +1,0 @@
-use Rattle.std.proofs.Common.{rules}
-use Rattle.digest.specs.Rounds.{turned}
-use Rattle.sha1_digest.proofs.rounds.sixteen_rounds.Goals as goal
-
-pub returns : goal.returns
-unfolding turned
-returns g c = search rules

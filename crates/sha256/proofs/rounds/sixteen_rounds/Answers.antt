@@ -1,7 +1,0 @@
-use borrow.Author.Rules.{rules}
-use Rattle.digest.specs.Rounds.{turned}
-use Rattle.sha256.proofs.rounds.sixteen_rounds.Goals as goal
-
-pub returns : goal.returns
-unfolding turned
-returns g c = search rules

@@ -9,7 +9,7 @@ use std::fmt;
 /// What one call at a faulty cloud does.
 #[derive(Clone, Copy, Debug, Default, PartialEq, Eq)]
 pub enum Fault {
-    /// The call is passed on.
+    /// The call is passed on, as each is after a script's last fault.
     #[default]
     Pass,
     /// No answer, and the cloud below is not asked.

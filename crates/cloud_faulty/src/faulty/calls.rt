@@ -35,6 +35,7 @@ impl<C: Cloud> Cloud for FaultyCloud<C> {
 
     ghost nexting = { λ s above place r place' t h. next_law _ _ s.script _ h.0 _ ((t.below ≡ s.below) × (place' ≡ place)) above place r place' (C.Cloud.nexting s.below above place r place' t.below) h.1 };
 
+    // Each call says what each fault does at it: the answers that are claimed differ, and only a get flips a bit.
     fn put(&mut self, name: &[u8], value: &[u8]) -> Result<(), Cause> {
         match self.script.take() {
             Fault::Pass | Fault::FlippedBit => self.below.put(name, value),

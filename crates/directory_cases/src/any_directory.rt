@@ -1,79 +1,62 @@
 //! What every empty directory of two places does.
-use directory::interface::{CommitAnswer, Directory};
+use directory::interface::{CommitError, Directory};
 use directory_journal::journal::Journal;
 use directory_journal::memory::JournalMemory;
 use directory_table::table::Table;
 use entry::entry::Entry;
+use naming::address::Address;
 use naming::key::Key;
 use naming::stamp::Stamp;
 use std::process::Abort;
 use std::test::Fail;
 
-fn key(bytes: &[u8]) -> Result<Key, Fail> {
-    match Key::new(bytes) {
-        Some(key) => Ok(key),
-        None => Err(Fail::new("no key")),
-    }
+fn at(container: u8, name: u8) -> Result<Address, Fail> {
+    let key = Key::new(&[name]).ok_or_else(|| Fail::new("no key"))?;
+    Ok(Address { container, key })
 }
 
 fn deleted(sequence: u32, writer: u8) -> Result<Entry, Fail> {
-    let Some(stamp) = Stamp::new(sequence, writer) else {
-        return Err(Fail::new("no such writer"));
-    };
+    let stamp = Stamp::new(sequence, writer).ok_or_else(|| Fail::new("no such writer"))?;
+    // No `ok_or_else`: of one that takes an Option of an entry the prover makes no proof.
     match Entry::deleted(stamp) {
         Some(entry) => Ok(entry),
         None => Err(Fail::new("no such stamp")),
     }
 }
 
-// What a commit of a deletion is answered.
-fn answer<D: Directory>(
-    directory: &mut D,
-    container: u8,
-    name: u8,
-    sequence: u32,
-    writer: u8,
-) -> Result<&'static str, Fail> {
-    match directory.commit(container, &key(&[name])?, &deleted(sequence, writer)?) {
-        CommitAnswer::Committed => Ok("committed"),
-        CommitAnswer::Older => Ok("older"),
-        CommitAnswer::Full => Ok("full"),
-    }
-}
-
 // Older is said before full.
 fn commits<D: Directory>(rt: &impl Abort, directory: &mut D) -> Result<(), Fail> {
     for (container, name, sequence, writer, expected) in [
-        (7u8, b'b', 2u32, 2u8, "committed"),
-        (7, b'b', 2, 2, "older"),
-        (7, b'b', 1, 16, "older"),
-        (7, b'b', 2, 3, "committed"),
-        (8, b'b', 1, 1, "committed"),
-        (7, b'c', 1, 1, "full"),
-        (8, b'b', 1, 1, "older"),
-        (8, b'b', 5, 1, "committed"),
+        (7u8, b'b', 2u32, 2u8, Ok(())),
+        (7, b'b', 2, 2, Err(CommitError::Older)),
+        (7, b'b', 1, 16, Err(CommitError::Older)),
+        (7, b'b', 2, 3, Ok(())),
+        (8, b'b', 1, 1, Ok(())),
+        (7, b'c', 1, 1, Err(CommitError::Full)),
+        (8, b'b', 1, 1, Err(CommitError::Older)),
+        (8, b'b', 5, 1, Ok(())),
     ] {
-        assert_eq!(rt;
-            answer(directory, container, name, sequence, writer)?,
-            expected
-        );
+        let entry = deleted(sequence, writer)?;
+        assert_eq!(rt; directory.commit(&at(container, name)?, &entry), expected);
     }
     Ok(())
 }
 
-fn sequence_of<D: Directory>(directory: &mut D, container: u8, name: u8) -> Result<u32, Fail> {
-    match directory.look(container, &key(&[name])?) {
-        None => Ok(0),
-        Some(entry) => Ok(entry.stamp().sequence()),
-    }
+fn sequence_of<D: Directory>(
+    directory: &mut D,
+    container: u8,
+    name: u8,
+) -> Result<Option<u32>, Fail> {
+    let found = directory.look(&at(container, name)?);
+    Ok(found.as_ref().map(|entry| entry.stamp().sequence()))
 }
 
 fn looks<D: Directory>(rt: &impl Abort, directory: &mut D) -> Result<(), Fail> {
     for (container, name, sequence) in [
-        (7u8, b'b', 2u32),
-        (8, b'b', 5),
-        (7, b'c', 0),
-        (0, b'b', 0),
+        (7u8, b'b', Some(2u32)),
+        (8, b'b', Some(5)),
+        (7, b'c', None),
+        (0, b'b', None),
     ] {
         assert_eq!(rt; sequence_of(directory, container, name)?, sequence);
     }
@@ -103,9 +86,8 @@ fn check_all<D: Directory>(rt: &impl Abort, directory: &mut D) -> Result<(), Fai
 
 #[test]
 fn a_table(rt: HostRuntime) -> Result<(), Fail> {
-    let Ok(mut table) = Table::new(Vec::with_capacity(rt.alloc(), 2)?, 2) else {
-        return Err(Fail::new("not made"));
-    };
+    let memory = Vec::with_capacity(rt.alloc(), 2)?;
+    let mut table = Table::new(memory, 2).map_err(|_| Fail::new("not made"))?;
     check_all(&rt, &mut table)
 }
 
@@ -115,8 +97,6 @@ fn a_journal(rt: HostRuntime) -> Result<(), Fail> {
         bytes: vec![in rt.alloc(); 0u8; 225]?,
         index: Vec::with_capacity(rt.alloc(), 2)?,
     };
-    let Ok(mut journal) = Journal::open(memory, 2) else {
-        return Err(Fail::new("not opened"));
-    };
+    let mut journal = Journal::open(memory, 2).map_err(|_| Fail::new("not opened"))?;
     check_all(&rt, &mut journal)
 }

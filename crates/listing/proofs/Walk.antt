@@ -21,7 +21,7 @@ use Rattle.protocol.specs.Grounds.{is_there, live_of}
 use Rattle.protocol.specs.Listing.{key_if_live, keys_of, listing, live_keys}
 use Rattle.listing.specs.declared.keys.LiveKeys.{LiveKeys}
 use Rattle.listing.specs.Sizes.{measured}
-use Rattle.listing.specs.Walk.{key_given, bytes_of, inside, left, SameDirectory, Steps}
+use Rattle.listing.specs.Walk.{key_given, bytes_of, inside, left, SameDirectory}
 
 -- ---- one key after another
 
@@ -42,11 +42,11 @@ next_left (p ∷ m) a k asc e =
     let v = below_asymmetric p.0 k b in
     rw (s, find_cons p m k, u, v) (next_left m a k asc.1 r))
     (cases_Bool (below a p.0)) where
-  here : below a p.0 ≡ true → live_keys (beyond a (p ∷ m)) ≡ key_if_live (live_of (find (p ∷ m) p.0)) p.0 (live_keys (beyond p.0 (p ∷ m)))
-  here s =
-      let t = same_self p.0 in
-      let u = below_irreflexive p.0 in
-      rw (s, find_cons p m p.0, t, u) (ap (λ q. key_if_live p.1.live p.0 (live_keys q)) (beyond_all a m (all_above_weaker a p.0 m s asc.0) ∙ sym (beyond_all p.0 m asc.0)))
+      here : below a p.0 ≡ true → live_keys (beyond a (p ∷ m)) ≡ key_if_live (live_of (find (p ∷ m) p.0)) p.0 (live_keys (beyond p.0 (p ∷ m)))
+      here s =
+          let t = same_self p.0 in
+          let u = below_irreflexive p.0 in
+          rw (s, find_cons p m p.0, t, u) (ap (λ q. key_if_live p.1.live p.0 (live_keys q)) (beyond_all a m (all_above_weaker a p.0 m s asc.0) ∙ sym (beyond_all p.0 m asc.0)))
 
 -- ---- keys of a directory
 

@@ -7,7 +7,7 @@ use directory::interface::Directory;
 use naming::address::Address;
 use naming::key::Key;
 
-/// The container's live keys above the last one, ascending: each call of `next` asks the directory for one.
+/// The container's live keys above the last one, ascending. Each is asked of the directory when its turn comes.
 #[derive(Drop)]
 pub struct LiveKeys<'a, D: Directory> {
     directory: &'a mut D,
@@ -49,6 +49,7 @@ impl<'a, D: Directory> LiveKeys<'a, D> {
         Key::new(&place[..len])
     }
 
+    // Whether the key has a value.
     fn is_live(&mut self, key: &Key) -> bool
         ensures value { result ≡ is_there (live_of (entry_of (D.meaning self.old.directory.now) self.old.container key.now.bytes)) }
         ensures last { self.new.last ≡ self.old.last }

@@ -43,6 +43,7 @@ fn write<D: Directory>(directory: &mut D, container: u8, buffer: &mut [u8])
     ensures written { buffer.new ≡ listing (keys_of (D.meaning directory.old) container) ++ drop (length (listing (keys_of (D.meaning directory.old) container))) buffer.old }
     ensures same { D.meaning directory.new ≡ D.meaning directory.old }
 {
+    // An offset: of a slice that the loop shortens, no proof knows what was written before it.
     let mut at = 0;
     for key in LiveKeys::new(directory, container) {
         let (_, place) = buffer.split_at_mut(at);

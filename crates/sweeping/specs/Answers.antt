@@ -2,8 +2,15 @@
 use Rattle.std.specs.Prelude.{◌≡◌, ℕ, List, take, Some, None, Ok, Err, Option, Result}
 use Rattle.refusal.specs.declared.Cause.{Cause}
 use Rattle.refusal.specs.declared.CloudFault.{CloudFault}
+use Rattle.naming.specs.Stamps.{StampValue}
+use Rattle.naming.specs.declared.address.Address.{Address}
 use Rattle.naming.specs.declared.name.Name.{Name}
 use Rattle.cloud.specs.Outcomes.{NextLength}
+use Rattle.protocol.specs.Slots.{SweepingValue}
+
+-- the sweep of the names at this address below a stamp
+abbrev pub sweep_of : Address → StampValue → SweepingValue
+sweep_of at stamp = record { container = at.container; key = at.key.bytes; stamp = stamp }
 
 -- what a cloud said, without its number
 abbrev pub said : {T : Type 0} → Result T CloudFault → Result T Cause

@@ -1,6 +1,5 @@
-use Rattle.std.proofs.Common.{ℕ, List, length, ap, ◌∙◌, zero-add, arith}
+use Rattle.std.proofs.Common.{length, ap, ◌∙◌, arith}
 use Rattle.naming.proofs.Keys.{valid_key_high}
-use Rattle.protocol.specs.Listing.{listing}
 use Rattle.listing.proofs.Walk.{few_keys, length_listing_more, measured_is}
 use Rattle.listing.proofs.list.measure.Goals as goal
 

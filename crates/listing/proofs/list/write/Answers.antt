@@ -1,4 +1,4 @@
-use Rattle.std.proofs.Common.{ap, sym, ◌∙◌, arith}
+use Rattle.std.proofs.Common.{◌∙◌, arith}
 use Rattle.listing.proofs.Walk.{length_listing_more, over_ends, over_on}
 use Rattle.listing.proofs.list.write.Goals as goal
 

@@ -1,4 +1,4 @@
-use Rattle.std.proofs.Common.{◌≡◌, ◌+◌, ◌*◌, ◌≤◌, ◌++◌, length, take, drop}
+use Rattle.std.proofs.Common.{◌≡◌, ◌+◌, length}
 use Rattle.protocol.specs.Listing.{keys_of, listing}
 use Rattle.listing.specs.Walk.{left}
 use Rattle.listing.proofs.Walk.{over_at}

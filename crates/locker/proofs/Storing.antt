@@ -1,32 +1,23 @@
 -- A store as a step.
-use Rattle.std.proofs.Common.{◌≡◌, ℕ, ◌-◌, ◌≤◌, Bool, true, cond, not, ltb, leb, List, length, set, Some, None, Ok, Err, Option, Result, sym, refl, ap, ◌∙◌, subst, arith}
+use Rattle.std.proofs.Common.{◌≡◌, ℕ, ◌-◌, ◌≤◌, true, cond, not, ltb, leb, List, length, set, None, Ok, Err, Result, sym, refl, ap, ◌∙◌, subst, arith}
 use Rattle.std.proofs.lemmas.Bool.{lt-ltb, leb-false}
 use Rattle.refusal.specs.declared.Cause.TheVariants.{Silent}
 use Rattle.refusal.specs.declared.CloudFault.{CloudFault}
 use Rattle.refusal.specs.declared.Refusal.{Refusal}
-use Rattle.refusal.specs.declared.Refusal.TheVariants.{UnknownParty, ValueTooLong, UnknownCloud, SlotNotReady, CloudRefused}
+use Rattle.refusal.specs.declared.Refusal.TheVariants.{UnknownParty, ValueTooLong, UnknownCloud, CloudRefused}
 use Rattle.cloud.specs.Meaning.{CloudMeaning, longest_value}
 use Rattle.cloud.specs.Outcomes.{Done, PutOutcome}
 use Rattle.row.specs.Rows.{Called, numbered}
 use Rattle.entry.specs.Clouds.{count, with_cloud}
-use Rattle.protocol.specs.Slots.{SlotValue, SavingValue, idle, saving, is_saving, of_saving}
+use Rattle.protocol.specs.Slots.{SlotValue, SavingValue, saving}
 use Rattle.protocol.specs.State.{Setting, State, valid_party, slot_at, slot_of, with_clouds}
 use Rattle.protocol.specs.Calls.{store}
 use Rattle.protocol.specs.Events.{stored}
-use Rattle.protocol.specs.Grounds.{first_ground, is_begun_value}
+use Rattle.protocol.specs.Grounds.{first_ground}
 use Rattle.protocol.specs.Steps.{or_refused, save_name, saving_of, acknowledged, Step}
 use Rattle.slots.specs.Values.{when}
 use Rattle.slots.specs.Grounds.{store_ground}
-use Rattle.locker.specs.Held.{by_ground}
-use Rattle.locker.proofs.Grounds.{refusing, allowing, passed, known_party, store_by_slot}
-
--- ---- the row's clause
-
-pub done_by : (ground : Option Refusal) (P Q : Type 0) → ground ≡ None → P → by_ground ground P Q
-done_by ground P Q g x = rw g x
-
-pub kept_by : (ground : Option Refusal) (P Q : Type 0) (e : Refusal) → ground ≡ Some e → Q → by_ground ground P Q
-kept_by ground P Q e g x = rw g x
+use Rattle.locker.proofs.Grounds.{allowing, passed, known_party, store_by_slot}
 
 -- ---- what the cloud said
 
@@ -46,10 +37,6 @@ module _ (S : Setting) (s : State) (p n i : ℕ) (v : List ℕ) (x : SavingValue
   ground_is =
       store_by_slot S s n i v (known_party p n party).0 (passed (ltb longest_value (length v)) ValueTooLong (tt {0}) (tt {0}) short).0 (passed (leb S.clouds i) UnknownCloud (tt {0}) (tt {0}) there).0
 
-  pub store_judged : (e : Refusal) → Err e ≡ or_refused (store_ground S (slot_at s.slots n) i v) x → first_ground S (store p i v) s ≡ Some e
-  store_judged e judged =
-      subst (λ (k : ℕ). first_ground S (store k i v) s ≡ Some e) (known_party p n party).1 (ground_is ∙ refusing (store_ground S (slot_of s n) i v) e x judged)
-
   -- it is allowed, and this is the save that the slot has
   pub store_allowed : Ok x ≡ or_refused (store_ground S (slot_at s.slots n) i v) (saving_of (slot_at s.slots n)) → (first_ground S (store p i v) s ≡ None) × (x ≡ saving_of (slot_of s p))
   store_allowed judged =
@@ -65,10 +52,7 @@ one_more x y i clouds few there same =
     let small : ltb i 7 ≡ true = lt-ltb i 7 (omega arith) in
     rw small (ap (λ (z : SavingValue). acknowledged z i) same)
 
--- ---- the three ends
-
-pub store_refused : (S : Setting) (s : State) (p i : ℕ) (v : List ℕ) (r : Result ℕ Refusal) (e : Refusal) → first_ground S (store p i v) s ≡ Some e → r ≡ Err e → Step S s (stored p i v r) s
-store_refused S s p i v r e g h = rw g (h, refl)
+-- ---- the two ends
 
 module _ (S : Setting) (s : State) (p i : ℕ) (v : List ℕ) (ms' : List CloudMeaning) (ground : first_ground S (store p i v) s ≡ None) where
   abbrev pub CalledWith : Done → Type 0

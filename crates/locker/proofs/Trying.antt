@@ -19,7 +19,7 @@ use Rattle.slots.specs.Values.{when}
 use Rattle.slots.specs.Grounds.{try_ground}
 use Rattle.trying.specs.Tried.{Tried}
 use Rattle.locker.specs.Held.{by_ground}
-use Rattle.locker.proofs.Grounds.{refusing, allowing, passed, known_party, or_first, two}
+use Rattle.locker.proofs.Grounds.{allowing, passed, known_party, or_first, two}
 
 -- ---- the checks before
 
@@ -35,11 +35,6 @@ module _ (S : Setting) (s : State) (p n i : ℕ) (b : List ℕ)
       rw ((known_party p n party).0, (passed (leb S.clouds i) UnknownCloud (tt {0}) (tt {0}) there).0)
       (two (not (is_fetching (slot_of s n))) (of_fetching (slot_of s n) (λ x. not (lists x.live.clouds i))) SlotNotReady CloudNotListed (room_ground (slot_of s n) b))
 
-  pub try_judged : (e : Refusal) (x : FetchingValue) → Err e ≡ or_refused (try_ground (slot_at s.slots n) i) x → first_ground S (try_cloud p i b) s ≡ Some e
-  try_judged e x judged =
-      subst (λ (k : ℕ). first_ground S (try_cloud k i b) s ≡ Some e) (known_party p n party).1
-      (ground_is ∙ ap (λ o. or_first o (room_ground (slot_of s n) b)) (refusing (try_ground (slot_of s n) i) e x judged))
-
   -- only the buffer can be too short, and this is the fetch that the slot has
   pub try_allowed : (x : FetchingValue) → Ok x ≡ or_refused (try_ground (slot_at s.slots n) i) (fetching_of (slot_at s.slots n))
       → (first_ground S (try_cloud p i b) s ≡ cond (ltb (length b) (fetching_of (slot_of s p)).live.size) (Some BufferTooShort) None) × (x ≡ fetching_of (slot_of s p))
@@ -47,7 +42,7 @@ module _ (S : Setting) (s : State) (p n i : ℕ) (b : List ℕ)
       let is = allowing (try_ground (slot_of s n) i) x (fetching_of (slot_of s n)) judged in
       let known = known_party p n party in (
         subst (λ (k : ℕ). first_ground S (try_cloud k i b) s ≡ cond (ltb (length b) (fetching_of (slot_of s k)).live.size) (Some BufferTooShort) None) known.1
-        (ground_is ∙ ap (λ o. or_first o (room_ground (slot_of s n) b)) is.0 ∙ room (slot_of s n) is.0),
+            (ground_is ∙ ap (λ o. or_first o (room_ground (slot_of s n) b)) is.0 ∙ room (slot_of s n) is.0),
         is.1 ∙ ap (λ (k : ℕ). fetching_of (slot_of s k)) known.1,
       )
     where
@@ -77,10 +72,7 @@ left_by_success S s p i x (Ok n) part k h =
     (λ (f : is_saved_value S x.live n part ≡ false). absurd (let no : Ok k ≡ Err ValueMismatch = h ∙ ap (λ b. cond b (Ok x.live.size) (Err ValueMismatch)) f in grind arith))
     (cases_Bool (is_saved_value S x.live n part))
 
--- ---- the ends: refused before, and asked, over any row
-
-pub try_refused : (S : Setting) (s : State) (p i : ℕ) (b : List ℕ) (r : Result ℕ Refusal) (e : Refusal) → first_ground S (try_cloud p i b) s ≡ Some e → r ≡ Err e → Step S s (tried p i b b r) s
-try_refused S s p i b r e g h = rw g ((h, refl), refl)
+-- ---- the ends, over any row
 
 module _ {Row : Type 0} (clouds : Row → List CloudMeaning) (gets : Row → ℕ → List ℕ → List ℕ → Length → List ℕ → Row → Type 0)
     (getting : (s : Row) (i : ℕ) (name part : List ℕ) (r : Length) (part' : List ℕ) (t : Row) → gets s i name part r part' t → Called (clouds s) i (clouds t) (λ m m'. GetOutcome m name part r part' m') ((r ≡ Err Silent) × (part' ≡ part)))

@@ -11,7 +11,7 @@ use Rattle.cloud.specs.Meaning.{CloudMeaning}
 use Rattle.cloud.specs.Outcomes.{Done}
 use Rattle.directory.specs.Meaning.{DirectoryMeaning}
 use Rattle.protocol.specs.Slots.{SlotValue, idle, fetching}
-use Rattle.protocol.specs.State.{Setting, State}
+use Rattle.protocol.specs.State.{State}
 use Rattle.protocol.specs.Calls.{Call}
 use Rattle.protocol.specs.Grounds.{first_ground}
 use Rattle.protocol.specs.Events.{Event}

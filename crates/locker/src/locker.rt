@@ -15,6 +15,7 @@ mod opening;
 mod saving;
 
 /// A directory, a row of clouds, and what each of sixteen parties has under way.
+// Its calls take party, container and key as the caller's raw numbers and bytes: each checks them, in the order of the grounds.
 #[derive(Drop)]
 pub struct Locker<D: Directory, R: Row, K: DigestKind> {
     directory: D,

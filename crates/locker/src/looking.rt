@@ -57,10 +57,7 @@ pub(crate) fn entry_at<D: Directory>(directory: &mut D, at: &Address) -> Result<
 }
 
 /// The key's entry, which must have a value.
-pub(crate) fn live_entry<D: Directory>(
-    directory: &mut D,
-    at: &Address,
-) -> Result<Entry, Refusal>
+pub(crate) fn live_entry<D: Directory>(directory: &mut D, at: &Address) -> Result<Entry, Refusal>
     ensures value { let entry = entry_of (D.meaning directory.old) at.now.container at.now.key.bytes in answered entry_value result ≡ or_refused (when (not (is_there (live_of entry))) NoEntry) (entry_or_none entry) }
     ensures same { D.meaning directory.new ≡ D.meaning directory.old }
 {

@@ -1,12 +1,13 @@
 //! The row of three clouds.
+use crate::REFUSED;
 use crate::lagging::LaggingCloud;
+use anyhow::Context;
 use cloud_faulty::faulty::FaultyCloud;
 use cloud_fixed::fixed::FixedCloud;
 use cloud_log::log_cloud::LogCloud;
 use cloud_log::memory::LogMemory;
 use row::pair::Pair;
 use row::single::Single;
-use std::alloc::AllocError;
 
 const PLACES: usize = 8;
 
@@ -24,38 +25,34 @@ type Failing = Single<FaultyCloud<FixedCloud>>;
 
 pub(super) type Three = Pair<Log, Pair<Lagging, Failing>>;
 
-fn fixed(rt: &HostRuntime) -> Result<Option<FixedCloud>, AllocError> {
+fn fixed(rt: &HostRuntime) -> anyhow::Result<FixedCloud> {
     let memory = Vec::with_capacity(rt.alloc(), PLACES)?;
-    Ok(FixedCloud::new(memory, PLACES).ok())
+    FixedCloud::new(memory, PLACES).ok().context(REFUSED)
 }
 
-fn log(rt: &HostRuntime) -> Result<Option<LogCloud>, AllocError> {
+fn log(rt: &HostRuntime) -> anyhow::Result<LogCloud> {
     let memory = LogMemory {
         bytes: vec![in rt.alloc(); 0; LOG_SIZE]?,
         index: Vec::with_capacity(rt.alloc(), PLACES)?,
     };
-    Ok(LogCloud::new(memory, PLACES).ok())
+    LogCloud::new(memory, PLACES).ok().context(REFUSED)
 }
 
-fn failing(rt: &HostRuntime) -> Result<Option<FaultyCloud<FixedCloud>>, AllocError> {
-    let Some(cloud) = fixed(rt)? else {
-        return Ok(None);
-    };
-    Ok(FaultyCloud::new(cloud, &SCRIPT).ok())
+fn failing(rt: &HostRuntime) -> anyhow::Result<FaultyCloud<FixedCloud>> {
+    FaultyCloud::new(fixed(rt)?, &SCRIPT).ok().context(REFUSED)
 }
 
 /// A log cloud that does what it should, one that lags, and a fixed one that falls silent after its first call.
-pub(super) fn three(rt: &HostRuntime) -> Result<Option<Three>, AllocError> {
-    let (Some(first), Some(third)) = (log(rt)?, failing(rt)?) else {
-        return Ok(None);
-    };
-    Ok(Some(Pair {
-        left: Single { cloud: first },
+pub(super) fn three(rt: &HostRuntime) -> anyhow::Result<Three> {
+    Ok(Pair {
+        left: Single { cloud: log(rt)? },
         right: Pair {
             left: Single {
                 cloud: LaggingCloud::new(),
             },
-            right: Single { cloud: third },
+            right: Single {
+                cloud: failing(rt)?,
+            },
         },
-    }))
+    })
 }

@@ -1,9 +1,10 @@
 //! The journal of the directory: opened at first, and again after the box was switched off.
-use crate::told;
-use anyhow::anyhow;
+use crate::{REFUSED, told, tractors};
+use anyhow::Context;
 use directory::interface::Directory;
 use directory_journal::journal::Journal;
 use directory_journal::memory::JournalMemory;
+use naming::address::Address;
 use naming::key::Key;
 
 const PLACES: usize = 4;
@@ -11,28 +12,23 @@ const PLACES: usize = 4;
 const SIZE: usize = (PLACES + 1) * 75;
 
 /// An empty journal.
-pub(super) fn empty(rt: &HostRuntime) -> anyhow::Result<Option<Journal>> {
+pub(super) fn empty(rt: &HostRuntime) -> anyhow::Result<Journal> {
     let memory = JournalMemory {
         bytes: vec![in rt.alloc(); 0; SIZE]?,
         index: Vec::with_capacity(rt.alloc(), PLACES)?,
     };
-    Ok(Journal::open(memory, PLACES).ok())
-}
-
-// The records: all bytes up to the first 0 that ends them.
-fn print_records(rt: &HostRuntime, journal: &Journal) -> anyhow::Result<()> {
-    told::hex(rt, "  its bytes: ", journal.records())
+    Journal::open(memory, PLACES).ok().context(REFUSED)
 }
 
 fn print_entry(rt: &HostRuntime, journal: &mut Journal) -> anyhow::Result<()> {
-    let Some(key) = Key::new(b"drill/left") else {
-        return Err(anyhow!("no key"));
+    let at = Address {
+        container: tractors::CONTAINER,
+        key: Key::new(tractors::KEY).context("no key")?,
     };
-    match journal.look(7, &key) {
+    match journal.look(&at) {
         Some(entry) => {
-            let sequence = entry.stamp().sequence();
-            let writer = entry.stamp().writer();
-            println!(rt; "  drill/left: stamp ({sequence},{writer}).")?;
+            let stamp = told::Printed(entry.stamp());
+            println!(rt; "  drill/left: {stamp}.")?;
         }
         None => println!(rt; "  drill/left: no entry.")?,
     }
@@ -41,7 +37,8 @@ fn print_entry(rt: &HostRuntime, journal: &mut Journal) -> anyhow::Result<()> {
 
 /// Prints the journal, opens its bytes again, and shows that the entry is still there; then damages them.
 pub(super) fn open_again(rt: &HostRuntime, journal: Journal) -> anyhow::Result<()> {
-    print_records(rt, &journal)?;
+    // The records: all bytes up to the first 0 that ends them.
+    told::hex(rt, "  its bytes: ", journal.records())?;
     println!(rt; "The box is switched off and on; the bytes are opened again.")?;
     let mut again = match Journal::open(journal.close(), PLACES) {
         Ok(journal) => journal,
@@ -55,10 +52,10 @@ pub(super) fn open_again(rt: &HostRuntime, journal: Journal) -> anyhow::Result<(
 fn damaged(rt: &HostRuntime, journal: Journal) -> anyhow::Result<()> {
     println!(rt; "One bit of the first record is damaged, and the bytes are opened again.")?;
     let mut memory = journal.close();
-    if memory.bytes.len() == 0 {
+    if memory.bytes.is_empty() {
         return Ok(());
     }
-    memory.bytes[0] = memory.bytes[0] ^ 0x20;
+    memory.bytes[0] ^= 0x20;
     match Journal::open(memory, PLACES) {
         Ok(_) => println!(rt; "  opened.")?,
         Err(rejected) => told::refused(rt, "open", &rejected.refusal)?,

@@ -5,8 +5,7 @@ pub mod calls;
 /// An unsound cloud: it acknowledges whatever is put, and gives the first offset that was ever put, under every name.
 #[derive(Clone, Copy)]
 pub struct LaggingCloud {
-    // The three bytes of an offset.
-    first: Option<(u8, u8, u8)>,
+    first: Option<[u8; 3]>,
 }
 
 impl LaggingCloud {

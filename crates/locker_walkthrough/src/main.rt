@@ -2,11 +2,10 @@
 //! second tractor fetches the offset; and what becomes of a cloud that gives out an earlier copy.
 #![tactic(auto)]
 
-use anyhow::anyhow;
-use directory::interface::Directory;
+use anyhow::Context;
 use directory_journal::journal::Journal;
 use locker::locker::Locker;
-use row::interface::Row;
+use sha256::kind::Sha256;
 
 mod clouds;
 mod journals;
@@ -14,23 +13,20 @@ mod lagging;
 mod told;
 mod tractors;
 
-type Kit = Locker<Journal, clouds::Three, sha256::kind::Sha256>;
+/// The Locker of this walk.
+type Kit = Locker<Journal, clouds::Three, Sha256>;
 
-fn open(rt: &HostRuntime) -> anyhow::Result<Option<Kit>> {
-    let Some(row) = clouds::three(rt)? else {
-        return Ok(None);
-    };
-    let Some(journal) = journals::empty(rt)? else {
-        return Ok(None);
-    };
-    Ok(Locker::open(journal, row, 1).ok())
+/// What is said where the clouds, the journal or the Locker is refused.
+const REFUSED: &str = "the Locker was refused";
+
+fn open(rt: &HostRuntime) -> anyhow::Result<Kit> {
+    let row = clouds::three(rt)?;
+    let journal = journals::empty(rt)?;
+    Locker::open(journal, row, 1).ok().context(REFUSED)
 }
 
 // One cloud falls silent, and the other has the offset.
-fn silence<D: Directory, R: Row>(
-    rt: &HostRuntime,
-    kit: &mut Locker<D, R, sha256::kind::Sha256>,
-) -> anyhow::Result<()> {
+fn silence(rt: &HostRuntime, kit: &mut Kit) -> anyhow::Result<()> {
     println!(rt; "The first tractor saves +20 on clouds 0 and 2.")?;
     tractors::save(rt, kit, b"+20", [0, 2])?;
     println!(rt; "The second tractor fetches it; cloud 2 has fallen silent.")?;
@@ -43,10 +39,7 @@ fn silence<D: Directory, R: Row>(
 }
 
 // Where an earlier copy used to be steered by, it is refused.
-fn lag<D: Directory, R: Row>(
-    rt: &HostRuntime,
-    kit: &mut Locker<D, R, sha256::kind::Sha256>,
-) -> anyhow::Result<()> {
+fn lag(rt: &HostRuntime, kit: &mut Kit) -> anyhow::Result<()> {
     println!(rt; "")?;
     println!(rt; "The first tractor saves +25, and then +30, both on clouds 0 and 1.")?;
     tractors::save(rt, kit, b"+25", [0, 1])?;
@@ -62,9 +55,7 @@ fn lag<D: Directory, R: Row>(
 
 fn run(rt: &HostRuntime) -> anyhow::Result<()> {
     println!(rt; "Three clouds, of which one may do anything.")?;
-    let Some(mut kit) = open(rt)? else {
-        return Err(anyhow!("the Locker was refused"));
-    };
+    let mut kit = open(rt)?;
     silence(rt, &mut kit)?;
     lag(rt, &mut kit)?;
     println!(rt; "")?;

@@ -1,18 +1,16 @@
 //! What the tractors do, each step printed.
-use crate::told;
-use directory::interface::Directory;
-use locker::locker::Locker;
+use crate::{Kit, told};
 use protocol::answers::CommitOutcome;
-use row::interface::Row;
 
-const CONTAINER: u8 = 7;
+/// Where the offset is kept.
+pub(super) const CONTAINER: u8 = 7;
 
-const KEY: &[u8; 10] = b"drill/left";
+pub(super) const KEY: &[u8; 10] = b"drill/left";
 
 // Begins to save the offset, and stores it at two clouds.
-fn store_twice<D: Directory, R: Row>(
+fn store_twice(
     rt: &HostRuntime,
-    kit: &mut Locker<D, R, sha256::kind::Sha256>,
+    kit: &mut Kit,
     offset: &[u8],
     clouds: [usize; 2],
 ) -> anyhow::Result<()> {
@@ -33,96 +31,70 @@ fn store_twice<D: Directory, R: Row>(
 }
 
 /// Party 1 saves the offset on two clouds.
-pub(super) fn save<D: Directory, R: Row>(
+pub(super) fn save(
     rt: &HostRuntime,
-    kit: &mut Locker<D, R, sha256::kind::Sha256>,
+    kit: &mut Kit,
     offset: &[u8],
     clouds: [usize; 2],
 ) -> anyhow::Result<()> {
     store_twice(rt, kit, offset, clouds)?;
-    match kit.commit(1) {
-        Ok(CommitOutcome::Committed) => println!(rt; "  commit: committed.")?,
-        Ok(CommitOutcome::Passed) => println!(rt; "  commit: passed, a later save stands.")?,
-        Err(refusal) => told::refused(rt, "commit", &refusal)?,
+    match told::accepted(rt, "commit", kit.commit(1))? {
+        Some(CommitOutcome::Committed) => println!(rt; "  commit: committed.")?,
+        Some(CommitOutcome::Passed) => println!(rt; "  commit: passed, a later save stands.")?,
+        None => (),
     }
     Ok(())
 }
 
 /// Party 2 begins to fetch the offset.
-pub(super) fn begin_fetch<D: Directory, R: Row>(
-    rt: &HostRuntime,
-    kit: &mut Locker<D, R, sha256::kind::Sha256>,
-) -> anyhow::Result<()> {
-    match kit.begin_fetch(2, CONTAINER, KEY) {
-        Ok(found) => {
-            let sequence = found.stamp.sequence();
-            let writer = found.stamp.writer();
-            let size = found.size;
-            println!(rt; "  begin: stamp ({sequence},{writer}), {size} bytes.")?;
-        }
-        Err(refusal) => told::refused(rt, "begin", &refusal)?,
+pub(super) fn begin_fetch(rt: &HostRuntime, kit: &mut Kit) -> anyhow::Result<()> {
+    if let Some(found) = told::accepted(rt, "begin", kit.begin_fetch(2, CONTAINER, KEY))? {
+        let stamp = told::Printed(found.stamp);
+        let size = found.size;
+        println!(rt; "  begin: {stamp}, {size} bytes.")?;
     }
     Ok(())
 }
 
 /// Party 2 tries a cloud.
-pub(super) fn try_cloud<D: Directory, R: Row>(
-    rt: &HostRuntime,
-    kit: &mut Locker<D, R, sha256::kind::Sha256>,
-    cloud: usize,
-) -> anyhow::Result<()> {
+pub(super) fn try_cloud(rt: &HostRuntime, kit: &mut Kit, cloud: usize) -> anyhow::Result<()> {
     let mut buffer = [0; 3];
     let answer = kit.try_cloud(2, cloud, &mut buffer);
     print!(rt; "  cloud {cloud}:")?;
-    match answer {
-        Ok(_) => match std::str::from_utf8(&buffer) {
+    if told::accepted(rt, "try", answer)?.is_some() {
+        match str::from_utf8(&buffer) {
             Ok(offset) => println!(rt; " {offset}, and the second tractor steers by it.")?,
             Err(_) => println!(rt; " bytes that are no text.")?,
-        },
-        Err(refusal) => told::refused(rt, "try", &refusal)?,
+        }
     }
     Ok(())
 }
 
 /// Party 1 deletes the offset.
-pub(super) fn delete<D: Directory, R: Row>(
-    rt: &HostRuntime,
-    kit: &mut Locker<D, R, sha256::kind::Sha256>,
-) -> anyhow::Result<()> {
+pub(super) fn delete(rt: &HostRuntime, kit: &mut Kit) -> anyhow::Result<()> {
     told::stamp(rt, "delete", kit.delete(1, CONTAINER, KEY))
 }
 
 /// What is saved in the container.
-pub(super) fn list<D: Directory, R: Row>(
-    rt: &HostRuntime,
-    kit: &mut Locker<D, R, sha256::kind::Sha256>,
-) -> anyhow::Result<()> {
+pub(super) fn list(rt: &HostRuntime, kit: &mut Kit) -> anyhow::Result<()> {
     let mut buffer = [0; 64];
-    match kit.list(CONTAINER, &mut buffer) {
-        Ok(listed) => {
-            let count = listed.count;
-            println!(rt; "  list: {count} keys.")?;
-            match buffer.get(0..listed.bytes) {
-                Some(bytes) => told::hex(rt, "  its bytes: ", bytes)?,
-                None => println!(rt; "  more bytes than the buffer has.")?,
-            }
+    if let Some(listed) = told::accepted(rt, "list", kit.list(CONTAINER, &mut buffer))? {
+        let count = listed.count;
+        println!(rt; "  list: {count} keys.")?;
+        match buffer.get(..listed.bytes) {
+            Some(bytes) => told::hex(rt, "  its bytes: ", bytes)?,
+            None => println!(rt; "  more bytes than the buffer has.")?,
         }
-        Err(refusal) => told::refused(rt, "list", &refusal)?,
     }
     Ok(())
 }
 
 /// Party 1 sweeps the older copies off a cloud.
-pub(super) fn sweep<D: Directory, R: Row>(
-    rt: &HostRuntime,
-    kit: &mut Locker<D, R, sha256::kind::Sha256>,
-    cloud: usize,
-) -> anyhow::Result<()> {
+pub(super) fn sweep(rt: &HostRuntime, kit: &mut Kit, cloud: usize) -> anyhow::Result<()> {
     told::stamp(rt, "begin", kit.begin_sweep(1, CONTAINER, KEY))?;
     told::count(rt, "sweep", "older copies dropped", kit.sweep(1, cloud))?;
-    match kit.leave(1) {
-        Ok(()) => println!(rt; "  leave: idle.")?,
-        Err(refusal) => told::refused(rt, "leave", &refusal)?,
+    if told::accepted(rt, "leave", kit.leave(1))?.is_some() {
+        println!(rt; "  leave: idle.")?;
     }
     Ok(())
 }

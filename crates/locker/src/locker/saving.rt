@@ -51,9 +51,7 @@ impl<D: Directory, R: Row, K: DigestKind> Locker<D, R, K> {
         let party = Party::try_from(party)?;
         check_value(value)?;
         check_cloud(cloud, &self.limits)?;
-        let saving = self
-            .slots
-            .to_store::<K>(party, cloud, value, &self.limits)?;
+        let saving = self.slots.to_store::<K>(party, cloud, value, &self.limits)?;
         put_at(&mut self.row, cloud, &saving, value)?;
         let saving = saving.acknowledged(cloud);
         self.slots.turn(party, Doing::Saving(saving));

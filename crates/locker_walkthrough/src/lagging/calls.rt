@@ -37,25 +37,19 @@ impl Cloud for LaggingCloud {
     ghost nexting = { λ s above place r place' t h. record { within = h; answer = λ e. absurd (clash e); written = λ e. absurd (clash e); after = λ e. absurd (clash e) } };
 
     fn put(&mut self, _name: &[u8], value: &[u8]) -> Result<(), Cause> {
-        if let [a, b, c] = value {
-            if self.first.is_none() {
-                self.first = Some((*a, *b, *c));
-            }
+        if self.first.is_none() {
+            self.first = <[u8; 3]>::try_from(value).ok();
         }
         Ok(())
     }
 
     fn get(&mut self, _name: &[u8], part: &mut [u8]) -> Result<usize, Cause> {
-        let Some((a, b, c)) = self.first else {
-            return Err(Cause::NotHeld);
-        };
-        if part.len() < 3 {
+        let first = self.first.ok_or(Cause::NotHeld)?;
+        if part.len() < first.len() {
             return Err(Cause::TooLong);
         }
-        part[0] = a;
-        part[1] = b;
-        part[2] = c;
-        Ok(3)
+        part[..first.len()].copy_from_slice(&first);
+        Ok(first.len())
     }
 
     fn drop(&mut self, _name: &[u8]) -> Result<(), Cause> {

@@ -1,8 +1,5 @@
-use Rattle.std.proofs.Common.{refl, rules}
-use Rattle.protocol.specs.State.{Setting, State}
-use Rattle.slots.specs.Values.{setting_of, saving_value}
-use Rattle.locker.specs.Held.{state_of}
-use Rattle.locker.proofs.Grounds.{refused, commit_judged, never_short}
+use Rattle.slots.specs.Values.{saving_value}
+use Rattle.locker.proofs.Grounds.{never_short}
 use Rattle.locker.proofs.locker.Locker.commit.Goals as goal
 
 pub returns-in_err-entry : goal.returns-in_err-entry

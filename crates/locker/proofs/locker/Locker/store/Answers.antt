@@ -1,19 +1,18 @@
-use Rattle.std.proofs.Common.{◌≡◌, ℕ, ◌-◌, List, set, Ok, Err, Result, sym, refl, ap, ◌∙◌, subst, rules}
+use Rattle.std.proofs.Common.{◌≡◌, ℕ, ◌-◌, List, set, Ok, Err, refl, ap, ◌∙◌, subst, rules}
 use Rattle.refusal.specs.declared.CloudFault.{CloudFault}
-use Rattle.refusal.specs.declared.Refusal.{Refusal}
 use Rattle.refusal.specs.declared.Refusal.TheVariants.{CloudRefused}
 use Rattle.entry.specs.Clouds.{count}
 use Rattle.protocol.specs.Slots.{SavingValue, saving}
 use Rattle.protocol.specs.State.{Setting, State, slot_of}
 use Rattle.protocol.specs.Steps.{save_name, saving_of, acknowledged}
 use Rattle.slots.specs.Values.{setting_of, saving_value}
-use Rattle.locker.specs.Held.{state_of, said}
+use Rattle.locker.specs.Held.{state_of}
 use Rattle.locker.proofs.Grounds.{known_party}
-use Rattle.locker.proofs.Storing.{done_by, kept_by, fault_is, store_judged, store_allowed, one_more, store_refused, store_failed, store_done}
+use Rattle.locker.proofs.Storing.{fault_is, store_allowed, one_more, store_failed, store_done}
 use Rattle.locker.proofs.locker.Locker.store.Goals as goal
 
-pub returns-in_err-put_at : goal.returns-in_err-put_at
-returns-in_err-put_at g c =
+pub returns-in_err-put_at-clause-call : goal.returns-in_err-put_at-clause-call
+returns-in_err-put_at-clause-call g c =
     let S : Setting = setting_of g.K.DigestKind.digested c.args.self.now.limits in
     let s : State = state_of g.D.Directory.meaning g.R.Row.clouds g.K.DigestKind.digested c.args.self.now in
     let p = c.args.party in
@@ -28,13 +27,10 @@ returns-in_err-put_at g c =
     let at = (fault_is i (Err fault.cause) fault met.fault).1 in
     let told : c.from_residual-in_err-put_at.result ≡ Err (CloudRefused fault) = search rules in
     let asked : g.R.Row.puts row i name v (Err fault.cause) row' = subst (λ (x : SavingValue). g.R.Row.puts row i (save_name x) v (Err fault.cause) row') allowed.1 met.asked in
-    record {
-      call = record { step = store_failed S s p i v (g.R.Row.clouds row') allowed.0 _ fault at told (g.met.R.Row.putting row i name v (Err fault.cause) row' asked); limits = refl };
-      row = done_by _ _ _ allowed.0 (subst (λ (r : Result ℕ Refusal). g.R.Row.puts row i name v (said r) row') (sym told) asked);
-    }
+    record { step = store_failed S s p i v (g.R.Row.clouds row') allowed.0 _ fault at told (g.met.R.Row.putting row i name v (Err fault.cause) row' asked); limits = refl }
 
-pub returns : goal.returns
-returns g c =
+pub returns-clause-call : goal.returns-clause-call
+returns-clause-call g c =
     let S : Setting = setting_of g.K.DigestKind.digested c.args.self.now.limits in
     let s : State = state_of g.D.Directory.meaning g.R.Row.clouds g.K.DigestKind.digested c.args.self.now in
     let p = c.args.party in
@@ -51,12 +47,9 @@ returns g c =
     let more = one_more (saving_value c.in_ok-saving.saving) x i c.args.self.now.limits.clouds c.args.self.now.limits.most c.in_ok-check_cloud.ensures allowed.1 in
     let stored : saving_value c.acknowledged-saving.result ≡ acknowledged x i = c.acknowledged-saving.ensures ∙ more in
     record {
-      call = record {
-        step = store_done S s p i v (g.R.Row.clouds row') allowed.0 c.count.result c.turn.new.self
-            (c.count.ensures ∙ ap (λ (y : SavingValue). count y.stored) stored)
-            (c.turn.ensures ∙ ap (λ (y : SavingValue). set s.slots (n - 1) (saving y)) stored ∙ ap (λ (k : ℕ). set s.slots (k - 1) (saving (acknowledged x i))) known.1)
-            (g.met.R.Row.putting row i name v (Ok tt) row' asked);
-        limits = refl;
-      };
-      row = done_by _ _ _ allowed.0 asked;
+      step = store_done S s p i v (g.R.Row.clouds row') allowed.0 c.count.result c.turn.new.self
+          (c.count.ensures ∙ ap (λ (y : SavingValue). count y.stored) stored)
+          (c.turn.ensures ∙ ap (λ (y : SavingValue). set s.slots (n - 1) (saving y)) stored ∙ ap (λ (k : ℕ). set s.slots (k - 1) (saving (acknowledged x i))) known.1)
+          (g.met.R.Row.putting row i name v (Ok tt) row' asked);
+      limits = refl;
     }

@@ -5,8 +5,7 @@ use Rattle.protocol.specs.State.{Setting, State}
 use Rattle.slots.specs.Values.{setting_of, fetching_value}
 use Rattle.locker.specs.Held.{state_of}
 use Rattle.locker.proofs.Grounds.{known_party}
-use Rattle.locker.proofs.Storing.{kept_by}
-use Rattle.locker.proofs.Trying.{try_judged, try_allowed, try_refused, TryEnd, Ends, try_failed, try_done}
+use Rattle.locker.proofs.Trying.{try_allowed, TryEnd, Ends, try_failed, try_done}
 use Rattle.locker.proofs.locker.Locker.try_cloud.Goals as goal
 
 pub returns-in_err-size : goal.returns-in_err-size
@@ -28,8 +27,8 @@ returns-in_err-size g c =
     let ends = subst (λ (r : Result ℕ Refusal). Ends g.R.Row.clouds g.R.Row.gets g.met.R.Row.getting S d ss row row' p i b b' r ss) (sym told) (try_failed g.R.Row.clouds g.R.Row.gets g.met.R.Row.getting S d ss row row' p i b b' e allowed.0 end) in
     record { call = record { step = ends.0; limits = refl }; row = ends.1 }
 
-pub returns : goal.returns
-returns g c =
+pub returns-clause-call : goal.returns-clause-call
+returns-clause-call g c =
     let S : Setting = setting_of g.K.DigestKind.digested c.args.self.now.limits in
     let d = g.D.Directory.meaning c.args.self.now.directory in
     let ss : List SlotValue = c.args.self.now.slots in
@@ -46,4 +45,4 @@ returns g c =
     let end = subst (λ (y : FetchingValue). TryEnd g.R.Row.clouds g.R.Row.gets g.met.R.Row.getting S d ss row row' p i b b' y (Ok k)) allowed.1 c.in_ok-size.ensures in
     let turned : c.turn.new.self ≡ set ss (p - 1) idle = c.turn.ensures ∙ ap (λ (m : ℕ). set ss (m - 1) idle) known.1 in
     let ends = try_done g.R.Row.clouds g.R.Row.gets g.met.R.Row.getting S d ss row row' p i b b' k c.turn.new.self allowed.0 end turned in
-    record { call = record { step = ends.0; limits = refl }; row = ends.1 }
+    record { step = ends.0; limits = refl }

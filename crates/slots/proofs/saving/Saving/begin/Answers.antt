@@ -3,7 +3,4 @@ use Rattle.slots.proofs.saving.Saving.begin.Goals as goal
 
 pub invariant_of-result-clause-wide : goal.invariant_of-result-clause-wide
 invariant_of-result-clause-wide g c =
-    let kind = g.met.K.DigestKind in
-    let value = c.args.value.now in
-    let fits = kind_fits (g.K.DigestKind.digested value) g.K.DigestKind.width kind.widths (kind.wide value) (kind.bytes value) in
-    rw c.of-digest.ensures fits
+    let kind = g.met.K.DigestKind in rw c.of-digest.ensures (kind_fits _ _ kind.widths (kind.wide _) (kind.bytes _))

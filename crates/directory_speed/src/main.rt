@@ -2,7 +2,7 @@
 //! one pass over its bytes. It measures when it is given the word `measure`.
 #![tactic(auto)]
 
-use anyhow::anyhow;
+use anyhow::Context;
 use directory::interface::Directory;
 use directory_journal::journal::Journal;
 use directory_journal::memory::JournalMemory;
@@ -18,10 +18,10 @@ const PLACES: usize = 64;
 const MEMORY: usize = (PLACES + 1) * 75;
 
 fn table(rt: &HostRuntime) -> anyhow::Result<Table> {
-    match Table::new(Vec::with_capacity(rt.alloc(), PLACES)?, PLACES) {
-        Ok(table) => Ok(table),
-        Err(_) => Err(anyhow!("the table was refused")),
-    }
+    let memory = Vec::with_capacity(rt.alloc(), PLACES)?;
+    Table::new(memory, PLACES)
+        .ok()
+        .context("the table was refused")
 }
 
 fn memory(rt: &HostRuntime) -> anyhow::Result<JournalMemory> {
@@ -32,19 +32,16 @@ fn memory(rt: &HostRuntime) -> anyhow::Result<JournalMemory> {
 }
 
 fn journal(memory: JournalMemory) -> anyhow::Result<Journal> {
-    match Journal::open(memory, PLACES) {
-        Ok(journal) => Ok(journal),
-        Err(_) => Err(anyhow!("the journal was refused")),
-    }
+    Journal::open(memory, PLACES)
+        .ok()
+        .context("the journal was refused")
 }
 
 // A line for each: the kind, the work, and the nanoseconds that one takes.
 fn measure<D: Directory>(rt: &HostRuntime, kind: &str, directory: &mut D) -> anyhow::Result<()> {
     let times = timing::best_times(rt, directory)?;
-    let look = times.look;
-    let commit = times.commit;
-    println!(rt; "{kind} look {look:.1}")?;
-    println!(rt; "{kind} commit {commit:.1}")?;
+    println!(rt; "{kind} look {:.1}", times.look)?;
+    println!(rt; "{kind} commit {:.1}", times.commit)?;
     Ok(())
 }
 

@@ -5,7 +5,7 @@ use Rattle.refusal.specs.Numbers.{refusal_number, refusal_offset}
 use Rattle.naming.specs.Stamps.{StampValue, stamp_below}
 use Rattle.naming.specs.Names.{name_of}
 use Rattle.entry.specs.Entries.{EntryValue}
-use Rattle.directory.specs.declared.interface.CommitAnswer.TheVariants.{Older}
+use Rattle.directory.specs.declared.interface.CommitError.TheVariants.{Older}
 use Rattle.directory.specs.Meaning.{DirectoryMeaning}
 use Rattle.directory.specs.Calls.{entry_of, commit_answer, commit_after}
 use Rattle.journal_record.specs.Records.{RecordValue}
@@ -43,7 +43,7 @@ pub record WorkedExamples : Type 0 where
   pub sequence_first : stamp_below (stamp 1 16) (stamp 2 1) ≡ true
   -- a commit with an equal stamp is older
   pub equal_stamp_is_older : (m : DirectoryMeaning) (container : ℕ) (key : List ℕ) (present new : EntryValue)
-      → entry_of m container key ≡ Some present → new.stamp ≡ present.stamp → commit_answer m container key new ≡ Older
+      → entry_of m container key ≡ Some present → new.stamp ≡ present.stamp → commit_answer m container key new ≡ Err Older
   -- 4 clouds of which 2 may fail are refused with 1; 5 open
   pub four_are_too_few : supported 2 4 ≡ false
   pub refused_with_1 : refusal_number UnsupportedRow ≡ 1

@@ -1,20 +1,18 @@
 //! Journals that close up over and over.
-use crate::made::{
-    deleted, filled, is_committed, is_full, key, opened, reopened, saved, sequence_of,
-};
-use directory::interface::Directory;
+use crate::made::{at, check_delete, filled, opened, reopened, saved, sequence_of};
+use directory::interface::{CommitError, Directory};
 use directory_journal::journal::Journal;
-use naming::key::Key;
+use naming::address::Address;
 use std::process::Abort;
 use std::test::*;
 
 const LONG: [u8; 32] = [b'k'; 32];
 
-// One of 64 keys of 32 bytes.
-fn long_key(i: u8) -> Result<Key, Fail> {
+// One of 64 keys of 32 bytes, in container 255.
+fn long_key(i: u8) -> Result<Address, Fail> {
     let mut bytes = LONG;
     bytes[31] = b'!' + i % 64;
-    key(&bytes)
+    at(255, &bytes)
 }
 
 // The longest record that there is.
@@ -25,7 +23,7 @@ fn commit_longest(
     sequence: u32,
 ) -> Result<(), Fail> {
     let entry = saved(rt, sequence, 16, 127, 1024, 32)?;
-    assert!(rt; is_committed(journal.commit(255, &long_key(i)?, &entry)));
+    assert_eq!(rt; journal.commit(&long_key(i)?, &entry), Ok(()));
     Ok(())
 }
 
@@ -36,7 +34,7 @@ fn check_sequences(
     sequence: u32,
 ) -> Result<(), Fail> {
     for i in 0..keys {
-        assert_eq!(rt; sequence_of(journal, 255, &long_key(i)?), sequence);
+        assert_eq!(rt; sequence_of(journal, &long_key(i)?), sequence);
     }
     Ok(())
 }
@@ -50,7 +48,14 @@ fn one_place(rt: HostRuntime) -> Result<(), Fail> {
         journal = reopened(journal, 1)?;
         check_sequences(&rt, &mut journal, 1, sequence)?;
     }
-    assert!(rt; is_full(journal.commit(255, &long_key(1)?, &deleted(1, 1)?)));
+    check_delete(
+        &rt,
+        &mut journal,
+        &long_key(1)?,
+        1,
+        1,
+        Err(CommitError::Full),
+    )?;
     Ok(())
 }
 
@@ -66,10 +71,24 @@ fn sixty_four_places(rt: HostRuntime) -> Result<(), Fail> {
         check_sequences(&rt, &mut copy, 64, sequence)?;
     }
     // Deleted entries keep their places, and full is said only of what is not older.
-    assert!(rt; is_committed(journal.commit(255, &long_key(0)?, &deleted(9, 1)?)));
-    assert!(rt; is_full(journal.commit(0, &key(b"new")?, &deleted(1, 1)?)));
-    assert!(rt; !is_full(journal.commit(255, &long_key(1)?, &deleted(1, 1)?)));
-    assert_eq!(rt; sequence_of(&mut journal, 255, &long_key(1)?), 4);
+    check_delete(&rt, &mut journal, &long_key(0)?, 9, 1, Ok(()))?;
+    check_delete(
+        &rt,
+        &mut journal,
+        &at(0, b"new")?,
+        1,
+        1,
+        Err(CommitError::Full),
+    )?;
+    check_delete(
+        &rt,
+        &mut journal,
+        &long_key(1)?,
+        1,
+        1,
+        Err(CommitError::Older),
+    )?;
+    assert_eq!(rt; sequence_of(&mut journal, &long_key(1)?), 4);
     Ok(())
 }
 

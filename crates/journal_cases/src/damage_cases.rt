@@ -1,5 +1,5 @@
 //! Damaged records, and journals cut short.
-use crate::made::{append_deleted, bad_at, deleted, filled, key, read_length, saved, written};
+use crate::made::{append_deleted, at, bad_at, deleted, filled, read_length, saved, written};
 use entry::entry::Entry;
 use journal_record::record::Record;
 use std::alloc::AllocGlobal;
@@ -8,12 +8,11 @@ use std::test::*;
 
 // Damaged bytes are no record, or are just those of another one.
 fn check_other(rt: &(impl Abort + AllocGlobal), bytes: &[u8]) -> Result<(), Fail> {
-    let Some(found) = Record::read(bytes) else {
+    let Some((other, len)) = Record::read(bytes) else {
         return Ok(());
     };
-    let (other, len) = found;
     assert!(rt; len <= bytes.len());
-    assert!(rt; written(rt, &other)?.as_slice() == &bytes[0..len]);
+    assert!(rt; written(rt, &other)?.as_slice() == &bytes[..len]);
     Ok(())
 }
 
@@ -21,7 +20,7 @@ fn check_bits(rt: &(impl Abort + AllocGlobal), bytes: &[u8], at: usize) -> Resul
     for bit in [1u8, 2, 4, 8, 16, 32, 64, 128] {
         let mut damaged = Vec::from_slice(rt.alloc(), bytes)?;
         if let Some(byte) = damaged.get_mut(at) {
-            *byte = *byte ^ bit;
+            *byte ^= bit;
         }
         assert!(rt; damaged.as_slice() != bytes);
         check_other(rt, damaged.as_slice())?;
@@ -33,24 +32,27 @@ fn check_bits(rt: &(impl Abort + AllocGlobal), bytes: &[u8], at: usize) -> Resul
 }
 
 fn check_damage(rt: &(impl Abort + AllocGlobal), container: u8, entry: Entry) -> Result<(), Fail> {
-    let bytes = written(rt, &Record::new(container, key(b"k1")?, entry))?;
+    let bytes = written(rt, &Record::new(at(container, b"k1")?, entry))?;
     for at in 0..bytes.len() {
         check_bits(rt, bytes.as_slice(), at)?;
-        assert_eq!(rt; read_length(&bytes.as_slice()[0..at]), None);
+        assert_eq!(rt; read_length(&bytes.as_slice()[..at]), None);
     }
     assert_eq!(rt; read_length(bytes.as_slice()), Some(bytes.len()));
     Ok(())
 }
 
-#[test]
-fn every_bit_of_each_shape(rt: HostRuntime) -> Result<(), Fail> {
-    for container in [0u8, 9] {
-        check_damage(&rt, container, deleted(1, 1)?)?;
-        for (size, width) in [(0usize, 20usize), (0, 32), (700, 20), (700, 32)] {
-            check_damage(&rt, container, saved(&rt, 1, 1, 3, size, width)?)?;
-        }
+fn check_each_shape(rt: &(impl Abort + AllocGlobal), container: u8) -> Result<(), Fail> {
+    check_damage(rt, container, deleted(1, 1)?)?;
+    for (size, width) in [(0usize, 20usize), (0, 32), (700, 20), (700, 32)] {
+        check_damage(rt, container, saved(rt, 1, 1, 3, size, width)?)?;
     }
     Ok(())
+}
+
+#[test]
+fn every_bit_of_each_shape(rt: HostRuntime) -> Result<(), Fail> {
+    check_each_shape(&rt, 0)?;
+    check_each_shape(&rt, 9)
 }
 
 // Records of 8 bytes each, of one key.
@@ -77,7 +79,7 @@ fn a_journal_cut_at_every_length(rt: HostRuntime) -> Result<(), Fail> {
     assert_eq!(rt; all.len(), 200);
     for len in 0..201usize {
         assert!(rt; len <= all.len());
-        let front = &all.as_slice()[0..len];
+        let front = &all.as_slice()[..len];
         // The memory goes on, and is empty there.
         let longer = filled(&rt, front, 0, 240)?;
         assert_eq!(rt; bad_at(&rt, longer.as_slice(), 1)?, cut_record(len));

@@ -1,10 +1,11 @@
 //! What the cases are made of.
-use directory::interface::{CommitAnswer, Directory};
+use directory::interface::{CommitError, Directory};
 use directory_journal::journal::Journal;
 use directory_journal::memory::JournalMemory;
 use entry::entry::Entry;
 use entry::live::Live;
-use journal_record::record::Record;
+use journal_record::record::{LONGEST_RECORD, Record};
+use naming::address::Address;
 use naming::key::Key;
 use naming::stamp::Stamp;
 use refusal::Refusal;
@@ -14,25 +15,25 @@ use std::test::*;
 
 const DIGEST: [u8; 32] = [0xA5; 32];
 
-pub(crate) fn key(bytes: &[u8]) -> Result<Key, Fail> {
-    match Key::new(bytes) {
-        Some(key) => Ok(key),
-        None => Err(Fail::new("no key")),
-    }
+pub(crate) fn at(container: u8, bytes: &[u8]) -> Result<Address, Fail> {
+    let key = Key::new(bytes).ok_or_else(|| Fail::new("no key"))?;
+    Ok(Address { container, key })
 }
 
 fn stamp(sequence: u32, writer: u8) -> Result<Stamp, Fail> {
-    match Stamp::new(sequence, writer) {
-        Some(stamp) => Ok(stamp),
-        None => Err(Fail::new("no such writer")),
+    Stamp::new(sequence, writer).ok_or_else(|| Fail::new("no such writer"))
+}
+
+// No `ok_or_else`: of one that takes an Option of an entry the prover makes no proof.
+fn found(entry: Option<Entry>) -> Result<Entry, Fail> {
+    match entry {
+        Some(entry) => Ok(entry),
+        None => Err(Fail::new("no such stamp")),
     }
 }
 
 pub(crate) fn deleted(sequence: u32, writer: u8) -> Result<Entry, Fail> {
-    match Entry::deleted(stamp(sequence, writer)?) {
-        Some(entry) => Ok(entry),
-        None => Err(Fail::new("no such stamp")),
-    }
+    found(Entry::deleted(stamp(sequence, writer)?))
 }
 
 /// The entry of a value with a digest of this width.
@@ -45,29 +46,29 @@ pub(crate) fn saved(
     width: usize,
 ) -> Result<Entry, Fail> {
     assert!(rt; width <= 32);
-    let Some(live) = Live::new(clouds, size, &DIGEST[0..width]) else {
+    let Some(live) = Live::new(clouds, size, &DIGEST[..width]) else {
         return Err(Fail::new("no such value"));
     };
-    match Entry::saved(stamp(sequence, writer)?, live) {
-        Some(entry) => Ok(entry),
-        None => Err(Fail::new("no such stamp")),
-    }
+    found(Entry::saved(stamp(sequence, writer)?, live))
 }
 
 /// The bytes of a record.
 pub(crate) fn written(rt: &impl AllocGlobal, record: &Record) -> Result<Vec<u8>, Fail> {
-    let mut out = vec![in rt.alloc(); 0u8; 75]?;
-    let Some(len) = record.write(out.as_mut_slice()) else {
-        return Err(Fail::new("longer than any record"));
-    };
+    let mut out = vec![in rt.alloc(); 0u8; LONGEST_RECORD]?;
+    let len = record
+        .write(out.as_mut_slice())
+        .ok_or_else(|| Fail::new("longer than any record"))?;
     out.truncate(len);
     Ok(out)
 }
 
 /// How many bytes the record at the front takes up, if there is one.
 pub(crate) fn read_length(bytes: &[u8]) -> Option<usize> {
-    let (_, len) = Record::read(bytes)?;
-    Some(len)
+    // No `?`: of one that takes an Option of a record the prover makes no proof.
+    match Record::read(bytes) {
+        Some((_, len)) => Some(len),
+        None => None,
+    }
 }
 
 /// The key of one byte, deleted with this stamp: 8 bytes.
@@ -78,7 +79,7 @@ pub(crate) fn append_deleted(
     sequence: u32,
     writer: u8,
 ) -> Result<(), Fail> {
-    let record = Record::new(0, key(&[name])?, deleted(sequence, writer)?);
+    let record = Record::new(at(0, &[name])?, deleted(sequence, writer)?);
     let more = written(rt, &record)?;
     assert_eq!(rt; more.len(), 8);
     bytes.extend_from_slice(more.as_slice())?;
@@ -103,10 +104,7 @@ pub(crate) fn opened(
     places: usize,
 ) -> Result<Journal, Fail> {
     let index = Vec::with_capacity(rt.alloc(), places)?;
-    match Journal::open(JournalMemory { bytes, index }, places) {
-        Ok(journal) => Ok(journal),
-        Err(_) => Err(Fail::new("not opened")),
-    }
+    Journal::open(JournalMemory { bytes, index }, places).map_err(|_| Fail::new("not opened"))
 }
 
 /// Why the bytes are refused, if they are.
@@ -137,40 +135,33 @@ pub(crate) fn bad_at(
 ) -> Result<Option<usize>, Fail> {
     match refused(rt, bytes, places, places)? {
         None => Ok(None),
-        Some(refusal) => {
-            assert_eq!(rt; refusal.number(), 3);
-            Ok(refusal.offset())
-        }
+        Some(Refusal::CorruptJournal { offset }) => Ok(Some(offset)),
+        Some(_) => Err(Fail::new("refused for another reason")),
     }
 }
 
 pub(crate) fn reopened(journal: Journal, places: usize) -> Result<Journal, Fail> {
-    match Journal::open(journal.close(), places) {
-        Ok(journal) => Ok(journal),
-        Err(_) => Err(Fail::new("not opened again")),
-    }
-}
-
-pub(crate) fn is_committed(answer: CommitAnswer) -> bool {
-    match answer {
-        CommitAnswer::Committed => true,
-        CommitAnswer::Older => false,
-        CommitAnswer::Full => false,
-    }
-}
-
-pub(crate) fn is_full(answer: CommitAnswer) -> bool {
-    match answer {
-        CommitAnswer::Committed => false,
-        CommitAnswer::Older => false,
-        CommitAnswer::Full => true,
-    }
+    Journal::open(journal.close(), places).map_err(|_| Fail::new("not opened again"))
 }
 
 /// The sequence of the key's entry, or 0.
-pub(crate) fn sequence_of(journal: &mut Journal, container: u8, key: &Key) -> u32 {
-    match journal.look(container, key) {
-        None => 0,
-        Some(entry) => entry.stamp().sequence(),
-    }
+pub(crate) fn sequence_of(journal: &mut Journal, at: &Address) -> u32 {
+    journal
+        .look(at)
+        .as_ref()
+        .map_or(0, |entry| entry.stamp().sequence())
+}
+
+/// The key is deleted with this stamp: what that is answered.
+pub(crate) fn check_delete(
+    rt: &impl Abort,
+    journal: &mut Journal,
+    at: &Address,
+    sequence: u32,
+    writer: u8,
+    expected: Result<(), CommitError>,
+) -> Result<(), Fail> {
+    let entry = deleted(sequence, writer)?;
+    assert_eq!(rt; journal.commit(at, &entry), expected);
+    Ok(())
 }

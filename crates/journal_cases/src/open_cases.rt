@@ -1,9 +1,8 @@
 //! What is opened, what is refused, and garbage behind the end mark.
 use crate::made::{
-    append_deleted, bad_at, deleted, filled, is_committed, key, opened, refused, reopened,
-    sequence_of,
+    append_deleted, at, bad_at, check_delete, filled, opened, refused, reopened, sequence_of,
 };
-use directory::interface::Directory;
+use refusal::Refusal;
 use std::alloc::AllocGlobal;
 use std::process::Abort;
 use std::test::*;
@@ -24,8 +23,7 @@ fn storage_that_is_not_supported(rt: HostRuntime) -> Result<(), Fail> {
         match refused(&rt, memory.as_slice(), places, room)? {
             None => assert!(rt; taken),
             Some(refusal) => {
-                assert!(rt; !taken);
-                assert_eq!(rt; refusal.number(), 2);
+                assert!(rt; !taken && matches!(refusal, Refusal::UnsupportedStorage));
             }
         }
     }
@@ -35,10 +33,8 @@ fn storage_that_is_not_supported(rt: HostRuntime) -> Result<(), Fail> {
 #[test]
 fn storage_is_checked_before_the_bytes(rt: HostRuntime) -> Result<(), Fail> {
     let damaged = filled(&rt, &[], 0xFF, 149)?;
-    let Some(refusal) = refused(&rt, damaged.as_slice(), 1, 1)? else {
-        return Err(Fail::new("opened"));
-    };
-    assert_eq!(rt; refusal.number(), 2);
+    let refusal = refused(&rt, damaged.as_slice(), 1, 1)?;
+    assert!(rt; matches!(refusal, Some(Refusal::UnsupportedStorage)));
     Ok(())
 }
 
@@ -83,8 +79,8 @@ fn the_last_record_counts(rt: HostRuntime) -> Result<(), Fail> {
     }
     let memory = filled(&rt, bytes.as_slice(), 0, 150)?;
     let mut journal = opened(&rt, memory, 1)?;
-    assert_eq!(rt; sequence_of(&mut journal, 0, &key(b"k")?), 8);
-    assert_eq!(rt; sequence_of(&mut journal, 1, &key(b"k")?), 0);
+    assert_eq!(rt; sequence_of(&mut journal, &at(0, b"k")?), 8);
+    assert_eq!(rt; sequence_of(&mut journal, &at(1, b"k")?), 0);
     Ok(())
 }
 
@@ -93,9 +89,9 @@ fn garbage_behind_the_end_mark(rt: HostRuntime) -> Result<(), Fail> {
     let memory = filled(&rt, &[0], 0xFF, 225)?;
     let mut journal = opened(&rt, memory, 2)?;
     for sequence in 1..40u32 {
-        assert!(rt; is_committed(journal.commit(0, &key(b"k")?, &deleted(sequence, 1)?)));
+        check_delete(&rt, &mut journal, &at(0, b"k")?, sequence, 1, Ok(()))?;
         journal = reopened(journal, 2)?;
-        assert_eq!(rt; sequence_of(&mut journal, 0, &key(b"k")?), sequence);
+        assert_eq!(rt; sequence_of(&mut journal, &at(0, b"k")?), sequence);
     }
     Ok(())
 }
@@ -107,9 +103,9 @@ fn an_old_record_behind_the_end_mark(rt: HostRuntime) -> Result<(), Fail> {
     append_deleted(&rt, &mut bytes, b'o', 7, 7)?;
     let memory = filled(&rt, bytes.as_slice(), 0, 225)?;
     let mut journal = opened(&rt, memory, 2)?;
-    assert!(rt; is_committed(journal.commit(0, &key(b"k")?, &deleted(1, 1)?)));
+    check_delete(&rt, &mut journal, &at(0, b"k")?, 1, 1, Ok(()))?;
     journal = reopened(journal, 2)?;
-    assert_eq!(rt; sequence_of(&mut journal, 0, &key(b"k")?), 1);
-    assert_eq!(rt; sequence_of(&mut journal, 0, &key(b"o")?), 0);
+    assert_eq!(rt; sequence_of(&mut journal, &at(0, b"k")?), 1);
+    assert_eq!(rt; sequence_of(&mut journal, &at(0, b"o")?), 0);
     Ok(())
 }

@@ -1,9 +1,9 @@
 //! Records of every shape and both ends of every field, and each field one past its limit.
-use crate::made::{deleted, key, read_length, saved, written};
+use crate::made::{at, deleted, read_length, saved, written};
 use entry::entry::Entry;
 use entry::live::Live;
 use journal_record::record::Record;
-use naming::key::Key;
+use naming::address::Address;
 use std::alloc::AllocGlobal;
 use std::process::Abort;
 use std::test::*;
@@ -42,30 +42,24 @@ fn check_reads_back(
     assert_eq!(rt; bytes.len(), expected);
     assert_eq!(rt; record.len(), expected);
     bytes.extend_from_slice(&HIGH)?;
-    let Some(found) = Record::read(bytes.as_slice()) else {
+    let Some((again, len)) = Record::read(bytes.as_slice()) else {
         return Err(Fail::new("not read"));
     };
-    let (again, len) = found;
     assert_eq!(rt; len, expected);
-    assert_eq!(rt; again.container(), record.container());
-    assert!(rt; again.key().is_same(&record.key()));
+    assert_eq!(rt; again.at().container, record.at().container);
+    assert!(rt; again.at().key.is_same(&record.at().key));
     check_same_entry(rt, again.entry(), record.entry())
 }
 
 // A container of 0 and a size of 0 are left out.
 fn check_values(
     rt: &(impl Abort + AllocGlobal),
-    container: u8,
-    key: Key,
+    at: Address,
     sequence: u32,
     writer: u8,
 ) -> Result<(), Fail> {
-    let front = 7 + key.len() + if container == 0 { 0 } else { 1 };
-    check_reads_back(
-        rt,
-        &Record::new(container, key, deleted(sequence, writer)?),
-        front,
-    )?;
+    let front = 7 + at.key.len() + if at.container == 0 { 0 } else { 1 };
+    check_reads_back(rt, &Record::new(at, deleted(sequence, writer)?), front)?;
     for clouds in [1u8, 127] {
         for (size, width, more) in [
             (0usize, 20usize, 21usize),
@@ -76,7 +70,7 @@ fn check_values(
             (256, 32, 35),
         ] {
             let entry = saved(rt, sequence, writer, clouds, size, width)?;
-            check_reads_back(rt, &Record::new(container, key, entry), front + more)?;
+            check_reads_back(rt, &Record::new(at, entry), front + more)?;
         }
     }
     Ok(())
@@ -86,8 +80,8 @@ fn check_values(
 fn every_shape_and_both_ends_of_every_field(rt: HostRuntime) -> Result<(), Fail> {
     for container in [0u8, 1, 255] {
         for (sequence, writer) in [(1u32, 1u8), (4_294_967_295, 16)] {
-            check_values(&rt, container, key(&LOW)?, sequence, writer)?;
-            check_values(&rt, container, key(&HIGH)?, sequence, writer)?;
+            check_values(&rt, at(container, &LOW)?, sequence, writer)?;
+            check_values(&rt, at(container, &HIGH)?, sequence, writer)?;
         }
     }
     Ok(())
@@ -99,27 +93,40 @@ const LIVE: [u8; 33] = [
     0xA5, 0xA5, 0xA5, 0xA5, 0xA5, 0xA5, 0xA5, 0xA5, 0xA5, 0xA5, 0xA5, 0xA5,
 ];
 
-#[test]
-fn the_layout_of_a_record(rt: HostRuntime) -> Result<(), Fail> {
-    let record = Record::new(3, key(b"AB")?, saved(&rt, 2, 5, 7, 1024, 20)?);
-    assert!(rt; written(&rt, &record)?.as_slice() == LIVE.as_slice());
-    let gone = Record::new(0, key(b"AB")?, deleted(0x0102_0304, 5)?);
-    assert!(rt; written(&rt, &gone)?.as_slice() == [0x80, 2, 0x41, 0x42, 1, 2, 3, 4, 5].as_slice());
+fn check_layout(
+    rt: &(impl Abort + AllocGlobal),
+    container: u8,
+    entry: Entry,
+    expected: &[u8],
+) -> Result<(), Fail> {
+    let record = Record::new(at(container, b"AB")?, entry);
+    assert!(rt; written(rt, &record)?.as_slice() == expected);
     Ok(())
 }
 
+fn check_layouts(rt: &(impl Abort + AllocGlobal)) -> Result<(), Fail> {
+    check_layout(rt, 3, saved(rt, 2, 5, 7, 1024, 20)?, &LIVE)?;
+    let gone = [0x80, 2, 0x41, 0x42, 1, 2, 3, 4, 5];
+    check_layout(rt, 0, deleted(0x0102_0304, 5)?, &gone)
+}
+
+#[test]
+fn the_layout_of_a_record(rt: HostRuntime) -> Result<(), Fail> {
+    check_layouts(&rt)
+}
+
 // The record with one of its bytes changed.
-fn changed(rt: &impl Abort, at: usize, byte: u8) -> Result<[u8; 33], Fail> {
+fn changed(rt: &impl Abort, place: usize, byte: u8) -> Result<[u8; 33], Fail> {
     let mut bytes = LIVE;
-    assert!(rt; at < 33);
-    bytes[at] = byte;
+    assert!(rt; place < 33);
+    bytes[place] = byte;
     Ok(bytes)
 }
 
 #[test]
 fn one_past_each_limit(rt: HostRuntime) -> Result<(), Fail> {
     assert_eq!(rt; read_length(&LIVE), Some(33));
-    for (at, byte) in [
+    for (place, byte) in [
         // The map: bit 7 clear, bit 6, bit 5, both digests, no digest, a value without its clouds, clouds alone.
         (0usize, 0x0Fu8),
         (0, 0xCF),
@@ -144,7 +151,7 @@ fn one_past_each_limit(rt: HostRuntime) -> Result<(), Fail> {
         (11, 0),
         (12, 1),
     ] {
-        assert_eq!(rt; read_length(&changed(&rt, at, byte)?), None);
+        assert_eq!(rt; read_length(&changed(&rt, place, byte)?), None);
     }
     Ok(())
 }

@@ -53,24 +53,3 @@ module _ {X : Type 0} (passes : X → Bool) (le : X → X → Bool) (xs : List X
   least_only (Some i) None p q = absurd (some_and_none i p q)
   least_only (Some i) (Some j) p q =
       ⊎_elim (ap Some) (⊎_elim (λ h. absurd (not_after i j p q h)) (λ h. absurd (not_after j i q p h))) (cases_order i j)
-
--- ---- from a search to one by a narrower test
-
-module _ {X : Type 0} (wide narrow : X → Bool) (le : X → X → Bool) (xs : List X) (n : ℕ) (narrower : (x : X) → narrow x ≡ true → wide x ≡ true) where
-  pub narrow_none : NonePasses wide xs n → NonePasses narrow xs n
-  narrow_none none k h d = not_true_is_false _ (λ p. both_ways _ (none k h d) (narrower _ p))
-
-  -- The one that was found passes the narrower test too.
-  pub narrow_found : (i : ℕ) → LeastAt wide le xs n i → ((d : X) → narrow (get_or xs i d) ≡ true) → LeastAt narrow le xs n i
-  narrow_found i found passing =
-      record {
-        within = found.within;
-        passing = passing;
-        least = λ k h d p. found.least k h d (narrower _ p);
-        first = λ k h d p. found.first k h d (narrower _ p);
-      }
-
-  -- Nothing from the one that was found on passes the narrower test.
-  pub narrow_past : (i : ℕ) → LeastAt wide le xs n i → ((d y : X) → le (get_or xs i d) y ≡ true → narrow y ≡ false) → NonePasses narrow xs n
-  narrow_past i found past k h d =
-      not_true_is_false _ (λ p. both_ways _ (past d (get_or xs k d) (found.least k h d (narrower _ p))) p)

@@ -1,5 +1,5 @@
 -- What a call at a sound cloud answers, writes and leaves, by what the cloud finds.
-use Rattle.std.proofs.Common.{◌≡◌, ℕ, ◌+◌, ◌-◌, ◌<◌, ◌≤◌, true, false, eqb, leb, ◌⊎◌, List, length, Some, None, Ok, Err, IfOk, refl, arith}
+use Rattle.std.proofs.Common.{◌≡◌, ℕ, ◌+◌, ◌-◌, ◌<◌, ◌≤◌, true, false, eqb, ◌⊎◌, List, length, Some, None, Ok, Err, IfOk, refl, arith}
 use Rattle.std.proofs.lemmas.Bool.Decides.{nat_tests}
 use Rattle.refusal.specs.declared.Cause.TheVariants.{Full, TooLong, NotHeld}
 use Rattle.bytemap.specs.Map.{Map, find, insert, remove, next_key}
@@ -42,18 +42,6 @@ module _ (held : Held) (free : ℕ) (name : List ℕ) where
     pub get_missing : find held name ≡ None → GetOutcome (sound_cloud held free) name part (Err NotHeld) part (sound_cloud held free)
     unfolding get_answer get_part
     get_missing none = record { within = tt; answer = λ _. rw none; written = λ _. rw none; after = λ _. refl }
-
-    pub get_short : (value : List ℕ) → find held name ≡ Some value → length part < length value → GetOutcome (sound_cloud held free) name part (Err TooLong) part (sound_cloud held free)
-    unfolding get_answer get_part
-    get_short value some short =
-        let e : leb (length value) (length part) ≡ false = grind (arith, nat_tests) in
-        record { within = tt; answer = λ _. rw (some, e); written = λ _. rw (some, e); after = λ _. refl }
-
-    pub get_done : (value : List ℕ) → find held name ≡ Some value → length value ≤ length part → (n : ℕ) (part' : List ℕ) → n ≡ length value → part' ≡ over value part → GetOutcome (sound_cloud held free) name part (Ok n) part' (sound_cloud held free)
-    unfolding get_answer get_part
-    get_done value some short n part' l w =
-        let e : leb (length value) (length part) ≡ true = grind (arith, nat_tests) in
-        record { within = omega arith; answer = λ _. rw (some, e, l); written = λ _. rw (some, e, w); after = λ _. refl }
 
     -- what is found is written as far as there is room for it
     pub get_found : (value : List ℕ) → find held name ≡ Some value → (r : Length) (part' : List ℕ) → r ≡ length_within (Some value) (length part) → part' ≡ part_within (Some value) part → GetOutcome (sound_cloud held free) name part r part' (sound_cloud held free)

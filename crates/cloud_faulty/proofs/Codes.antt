@@ -1,7 +1,6 @@
 -- Reading the faults of codes from the left.
 use Rattle.std.proofs.Common.{◌≡◌, ℕ, ◌+◌, ◌<◌, ◌≤◌, true, leb, List, [], ◌∷◌, ◌++◌, length, get_or, drop, Some, None, Option, sym, refl, ap, ◌∙◌, append_assoc, arith}
 use Rattle.std.specs.Option.{option_map}
-use Rattle.std.proofs.lemmas.Iterator.Adapters.{option_map_id}
 use Rattle.std.proofs.lemmas.List.{at_drop_more, at_drop_all, append-nil}
 use Rattle.std.proofs.lemmas.Bool.Decides.{nat_tests}
 use Rattle.cloud_faulty.specs.declared.fault.Fault.{Fault}
@@ -14,9 +13,6 @@ Read codes i faults = faults_of codes ≡ option_map (λ fs. faults ++ fs) (faul
 mapped_after : (gs : List Fault) (f : Fault) (o : Option (List Fault)) → option_map (λ fs. gs ++ fs) (option_map (λ fs. f ∷ fs) o) ≡ option_map (λ fs. (gs ++ (f ∷ [])) ++ fs) o
 mapped_after gs f None = refl
 mapped_after gs f (Some fs) = ap Some (sym (append_assoc gs (f ∷ []) fs))
-
-pub read_none : (codes : List ℕ) → Read codes 0 []
-read_none codes = sym (option_map_id (faults_of codes))
 
 module _ (codes : List ℕ) (i : ℕ) (faults : List Fault) (before : Read codes i faults) where
   -- the next code

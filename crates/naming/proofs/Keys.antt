@@ -4,16 +4,11 @@ use Rattle.std.specs.List.{AllByRecursion as All}
 use Rattle.std.specs.List.{AllPass, list_all}
 use Rattle.std.specs.Prelude.{IsTrue, ◌↔◌}
 use Rattle.std.proofs.lemmas.List.Sums.{list_all-from_AllPass, AllPass-from_list_all}
-use Rattle.std.proofs.lemmas.Bool.{and_from, and_parts, le-leb, leb-true, cases_Bool, false≢true}
+use Rattle.std.proofs.lemmas.Bool.{and_parts, leb-true, cases_Bool, false≢true}
 use Rattle.naming.specs.Limits.{longest_key}
 use Rattle.naming.specs.Text.{printable, valid_key, visible}
 
 -- ---- what a valid key is
-
-pub valid_key_from : (bs : List ℕ) → 1 ≤ length bs → length bs ≤ longest_key → printable bs ≡ true → valid_key bs ≡ true
-unfolding valid_key
-valid_key_from bs low high text =
-    and_from _ _ (and_from _ _ (le-leb _ _ low) (le-leb _ _ high)) text
 
 pub valid_key_low : (bs : List ℕ) → valid_key bs ≡ true → 1 ≤ length bs
 unfolding valid_key
@@ -22,10 +17,6 @@ valid_key_low bs h = leb-true _ _ (and_parts _ _ (and_parts _ _ h).0).0
 pub valid_key_high : (bs : List ℕ) → valid_key bs ≡ true → length bs ≤ longest_key
 unfolding valid_key
 valid_key_high bs h = leb-true _ _ (and_parts _ _ (and_parts _ _ h).0).1
-
-pub valid_key_printable : (bs : List ℕ) → valid_key bs ≡ true → printable bs ≡ true
-unfolding valid_key
-valid_key_printable bs h = (and_parts _ _ h).1
 
 -- What may stand in a key fits a byte.
 pub printable_fits : (bs : List ℕ) → printable bs ≡ true → All (λ b. b < 256) bs

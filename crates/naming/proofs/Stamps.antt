@@ -2,7 +2,7 @@
 use Rattle.std.proofs.Common.{◌≡◌, ℕ, true, false, ◌⊎◌, ap, ◌∙◌, inl, inr, ⊎_elim, arith}
 use Rattle.std.proofs.lemmas.Bool.Decides.{nat_tests}
 use Rattle.std.proofs.lemmas.Bool.{cases_Bool}
-use Rattle.naming.specs.Stamps.{StampValue, stamp_below, StampsAreOrdered, no_stamp, next_stamp}
+use Rattle.naming.specs.Stamps.{StampValue, stamp_below, StampsAreOrdered, next_stamp}
 
 -- ---- their order
 
@@ -32,11 +32,6 @@ stamp_below_trichotomy s t =
 pub stamps_are_ordered : StampsAreOrdered
 stamps_are_ordered =
     record { irreflexive = stamp_below_irreflexive; transitive = stamp_below_transitive; trichotomous = stamp_below_trichotomy }
-
--- No stamp is below that of a key without an entry.
-pub not_below_no_stamp : (s : StampValue) → stamp_below s no_stamp ≡ false
-unfolding stamp_below
-not_below_no_stamp s = grind (arith, nat_tests)
 
 -- The next stamp is above, whoever writes.
 pub below_next_stamp : (s : StampValue) (w : ℕ) → stamp_below s (next_stamp s w) ≡ true

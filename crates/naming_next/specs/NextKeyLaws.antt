@@ -1,13 +1,12 @@
 -- The search over all addresses, and that in one container.
-use Rattle.std.specs.Prelude.{◌≡◌, ℕ, Bool, true, false, List, ◌∷◌, get_or, ◌≢◌, slice_index_or}
-use Rattle.std.proofs.Common.{sym, ap, ◌∙◌, arith}
-use Rattle.std.proofs.lemmas.Bool.Decides.{nat_tests}
+use Rattle.std.specs.Prelude.{◌≡◌, ℕ, Bool, List, ◌∷◌}
+use Rattle.std.proofs.Common.{sym, ◌∙◌}
 use Rattle.byte_strings.specs.Order.{at_most, below, UpwardClosed}
 use Rattle.byte_strings.specs.OrderLaws.{at_most_heads, below_heads, above_is_upward_closed}
 use Rattle.naming.specs.declared.address.Address.{Address}
 use Rattle.naming.specs.Addresses.{address_le, place}
 use Rattle.naming_next.specs.declared.key_bound.KeyBound.{KeyBound}
-use Rattle.naming_next.specs.NextKey.{address_above, key_above}
+use Rattle.naming_next.specs.NextKey.{address_above}
 
 -- ---- it is the order of byte strings that begin with the container
 

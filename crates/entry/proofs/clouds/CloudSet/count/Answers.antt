@@ -1,4 +1,4 @@
-use Rattle.std.proofs.Common.{sym, ap, ◌∙◌}
+use Rattle.std.proofs.Common.{ap, ◌∙◌}
 use Rattle.std.specs.Prelude.{count_ones}
 use Rattle.entry.proofs.Sets.{ones_are_clouds}
 use Rattle.entry.proofs.clouds.CloudSet.count.Goals as goal

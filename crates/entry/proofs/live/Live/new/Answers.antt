@@ -1,6 +1,5 @@
-use Rattle.std.proofs.Common.{◌≤◌, sym, ◌∙◌, arith}
+use Rattle.std.proofs.Common.{sym, arith}
 use Rattle.std.proofs.lemmas.Bool.{and_right}
-use Rattle.std.specs.Option.{option_map}
 use Rattle.digest.specs.Value.{digest_bytes}
 use Rattle.entry.proofs.Bytes.{digest_from_slice, no_digest_from_slice}
 use Rattle.entry.proofs.live.Live.new.Goals as goal

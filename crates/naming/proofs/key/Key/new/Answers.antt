@@ -1,7 +1,6 @@
-use Rattle.std.proofs.Common.{true, sym, ◌∙◌, arith}
+use Rattle.std.proofs.Common.{arith}
 use Rattle.std.proofs.lemmas.Bool.Decides.{nat_tests}
 use Rattle.naming.specs.Text.{valid_key}
-use Rattle.naming.proofs.Keys.{valid_key_from}
 use Rattle.naming.proofs.key.Key.new.Goals as goal
 use Rattle.naming.proofs.key.Key.new.Goals.{then-is_empty-via-then-is_empty, then-is_empty-via-else-is_empty+then-not-is_printable}
 

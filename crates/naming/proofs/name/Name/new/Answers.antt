@@ -1,4 +1,4 @@
-use Rattle.std.proofs.Common.{◌≡◌, ◌+◌, ◌≤◌, ◌++◌, length, refl, ap, ◌∙◌, arith, rules, length-append}
+use Rattle.std.proofs.Common.{◌≡◌, ◌≤◌, length, refl, ap, ◌∙◌, arith, rules, length-append}
 use Rattle.naming.specs.Names.{name_front}
 use Rattle.naming.proofs.Keys.{valid_key_high}
 use Rattle.naming.proofs.Names.{length_stamp_bytes, names_are_distinct, names_keep_the_order_of_stamps}

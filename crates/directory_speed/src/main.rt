@@ -7,6 +7,7 @@ use directory::interface::Directory;
 use directory_journal::journal::Journal;
 use directory_journal::memory::JournalMemory;
 use directory_table::table::Table;
+use journal_record::record::LONGEST_RECORD;
 use std::env;
 
 mod opening;
@@ -15,13 +16,11 @@ mod work;
 
 const PLACES: usize = 64;
 
-const MEMORY: usize = (PLACES + 1) * 75;
+const MEMORY: usize = (PLACES + 1) * LONGEST_RECORD;
 
 fn table(rt: &HostRuntime) -> anyhow::Result<Table> {
-    match Table::new(Vec::with_capacity(rt.alloc(), PLACES)?, PLACES) {
-        Ok(table) => Ok(table),
-        Err(_) => Err(anyhow!("the table was refused")),
-    }
+    let memory = Vec::with_capacity(rt.alloc(), PLACES)?;
+    Table::new(memory, PLACES).map_err(|_| anyhow!("the table was refused"))
 }
 
 fn memory(rt: &HostRuntime) -> anyhow::Result<JournalMemory> {
@@ -31,11 +30,8 @@ fn memory(rt: &HostRuntime) -> anyhow::Result<JournalMemory> {
     })
 }
 
-fn journal(memory: JournalMemory) -> anyhow::Result<Journal> {
-    match Journal::open(memory, PLACES) {
-        Ok(journal) => Ok(journal),
-        Err(_) => Err(anyhow!("the journal was refused")),
-    }
+fn open(memory: JournalMemory) -> anyhow::Result<Journal> {
+    Journal::open(memory, PLACES).map_err(|_| anyhow!("the journal was refused"))
 }
 
 // A line for each: the kind, the work, and the nanoseconds that one takes.
@@ -54,7 +50,7 @@ fn run(rt: &HostRuntime) -> anyhow::Result<()> {
         return Ok(());
     }
     measure(rt, "table", &mut table(rt)?)?;
-    let mut filled = journal(memory(rt)?)?;
+    let mut filled = open(memory(rt)?)?;
     measure(rt, "journal", &mut filled)?;
     opening::measure(rt, filled)
 }

@@ -1,7 +1,8 @@
 //! What is timed.
-use directory::interface::{CommitAnswer, Directory};
+use directory::interface::Directory;
 use entry::entry::Entry;
 use entry::live::Live;
+use naming::address::Address;
 use naming::key::Key;
 use naming::stamp::Stamp;
 
@@ -11,19 +12,14 @@ pub(super) const KEYS: u8 = 64;
 const CONTAINER: u8 = 7;
 
 // A key of ten bytes with its number in two digits.
-fn key(number: u8) -> Option<Key> {
-    Key::new(&[
-        b'd',
-        b'r',
-        b'i',
-        b'l',
-        b'l',
-        b'/',
-        b'0',
-        b'0',
-        b'0' + number / 10 % 10,
-        b'0' + number % 10,
-    ])
+fn at(number: u8) -> Option<Address> {
+    let mut bytes = *b"drill/0000";
+    bytes[8] += number / 10 % 10;
+    bytes[9] += number % 10;
+    Some(Address {
+        container: CONTAINER,
+        key: Key::new(&bytes)?,
+    })
 }
 
 fn entry(sequence: u32) -> Option<Entry> {
@@ -31,21 +27,17 @@ fn entry(sequence: u32) -> Option<Entry> {
 }
 
 fn commit<D: Directory>(directory: &mut D, number: u8, sequence: u32) -> bool {
-    let (Some(key), Some(entry)) = (key(number), entry(sequence)) else {
+    let (Some(at), Some(entry)) = (at(number), entry(sequence)) else {
         return false;
     };
-    match directory.commit(CONTAINER, &key, &entry) {
-        CommitAnswer::Committed => true,
-        CommitAnswer::Older => false,
-        CommitAnswer::Full => false,
-    }
+    directory.commit(&at, &entry).is_ok()
 }
 
 fn look<D: Directory>(directory: &mut D, number: u8) -> bool {
-    let Some(key) = key(number) else {
+    let Some(at) = at(number) else {
         return false;
     };
-    directory.look(CONTAINER, &key).is_some()
+    directory.look(&at).is_some()
 }
 
 /// Commits to every key, so many times over, with sequences from the first one on.
@@ -53,7 +45,7 @@ pub(super) fn commit_all<D: Directory>(directory: &mut D, first: u32, turns: u32
     let mut all = true;
     for turn in 0..turns {
         for number in 0..KEYS {
-            all = commit(directory, number, first.wrapping_add(turn)) && all;
+            all &= commit(directory, number, first.wrapping_add(turn));
         }
     }
     all
@@ -64,7 +56,7 @@ pub(super) fn look_all<D: Directory>(directory: &mut D, turns: u32) -> bool {
     let mut all = true;
     for _ in 0..turns {
         for number in 0..KEYS {
-            all = look(directory, number) && all;
+            all &= look(directory, number);
         }
     }
     all

@@ -2,11 +2,12 @@
 //! one pass over its bytes. It measures when it is given the word `measure`.
 #![tactic(auto)]
 
-use anyhow::Context;
+use anyhow::anyhow;
 use directory::interface::Directory;
 use directory_journal::journal::Journal;
 use directory_journal::memory::JournalMemory;
 use directory_table::table::Table;
+use journal_record::record::LONGEST_RECORD;
 use std::env;
 
 mod opening;
@@ -15,13 +16,11 @@ mod work;
 
 const PLACES: usize = 64;
 
-const MEMORY: usize = (PLACES + 1) * 75;
+const MEMORY: usize = (PLACES + 1) * LONGEST_RECORD;
 
 fn table(rt: &HostRuntime) -> anyhow::Result<Table> {
     let memory = Vec::with_capacity(rt.alloc(), PLACES)?;
-    Table::new(memory, PLACES)
-        .ok()
-        .context("the table was refused")
+    Table::new(memory, PLACES).map_err(|_| anyhow!("the table was refused"))
 }
 
 fn memory(rt: &HostRuntime) -> anyhow::Result<JournalMemory> {
@@ -31,17 +30,17 @@ fn memory(rt: &HostRuntime) -> anyhow::Result<JournalMemory> {
     })
 }
 
-fn journal(memory: JournalMemory) -> anyhow::Result<Journal> {
-    Journal::open(memory, PLACES)
-        .ok()
-        .context("the journal was refused")
+fn open(memory: JournalMemory) -> anyhow::Result<Journal> {
+    Journal::open(memory, PLACES).map_err(|_| anyhow!("the journal was refused"))
 }
 
 // A line for each: the kind, the work, and the nanoseconds that one takes.
 fn measure<D: Directory>(rt: &HostRuntime, kind: &str, directory: &mut D) -> anyhow::Result<()> {
     let times = timing::best_times(rt, directory)?;
-    println!(rt; "{kind} look {:.1}", times.look)?;
-    println!(rt; "{kind} commit {:.1}", times.commit)?;
+    let look = times.look;
+    let commit = times.commit;
+    println!(rt; "{kind} look {look:.1}")?;
+    println!(rt; "{kind} commit {commit:.1}")?;
     Ok(())
 }
 
@@ -51,7 +50,7 @@ fn run(rt: &HostRuntime) -> anyhow::Result<()> {
         return Ok(());
     }
     measure(rt, "table", &mut table(rt)?)?;
-    let mut filled = journal(memory(rt)?)?;
+    let mut filled = open(memory(rt)?)?;
     measure(rt, "journal", &mut filled)?;
     opening::measure(rt, filled)
 }

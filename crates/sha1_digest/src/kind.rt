@@ -1,5 +1,5 @@
 //! SHA-1 as a digest function.
-ghost use Rattle.std.specs.Prelude.{◌≡◌, refl};
+ghost use Rattle.std.specs.Prelude.{refl};
 ghost use Rattle.sha1_digest.specs.Constants.{initial as first};
 ghost use Rattle.sha1_digest.specs.Sha1.{round as rounded, mixed as mixed_words};
 ghost use Rattle.sha1_digest.specs.Schedule.{reads_sixteen};

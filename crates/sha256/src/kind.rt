@@ -1,5 +1,5 @@
 //! SHA-256 as a digest function.
-ghost use Rattle.std.specs.Prelude.{◌≡◌, refl};
+ghost use Rattle.std.specs.Prelude.{refl};
 ghost use Rattle.sha256.specs.Constants.{initial as first};
 ghost use Rattle.sha256.specs.Sha256.{round as rounded, mixed as mixed_words};
 ghost use Rattle.sha256.specs.Schedule.{reads_sixteen};

@@ -4,8 +4,6 @@ pub mod Replaying
 pub mod Journals
 pub mod LastRecords
 pub mod InTurn
-pub mod Marks
-pub mod Appends
 pub mod Stores
 pub mod Openings
 pub mod Rewrites

@@ -1,5 +1,5 @@
 use Rattle.directory_journal.proofs.Survives.{commits_survive}
 use Rattle.directory_journal.proofs.journal.Journal.bytes.Goals as goal
 
-pub returns : goal.returns
-returns c = record { value = c.as_slice.ensures.value; survive = commits_survive }
+pub returns-clause-survive : goal.returns-clause-survive
+returns-clause-survive c = commits_survive

@@ -11,6 +11,7 @@ pub(super) fn hex(rt: &HostRuntime, heading: &str, bytes: &[u8]) -> anyhow::Resu
 }
 
 /// A stamp as it is printed.
+#[derive(Drop)]
 pub(super) struct Printed(pub(super) Stamp);
 
 impl fmt::Display for Printed {

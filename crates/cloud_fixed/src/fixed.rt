@@ -11,6 +11,7 @@ mod making;
 mod search;
 
 /// A cloud that keeps each name in a place of its own.
+// No `impl Model`: code above sees a cloud by the meaning of its interface, and the law on limits reads these fields.
 #[derive(Drop)]
 pub struct FixedCloud {
     places: Vec<Place>,

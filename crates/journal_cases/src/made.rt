@@ -46,6 +46,7 @@ pub(crate) fn saved(
     width: usize,
 ) -> Result<Entry, Fail> {
     assert!(rt; width <= 32);
+    // No `ok_or_else`, as for an entry.
     let Some(live) = Live::new(clouds, size, &DIGEST[..width]) else {
         return Err(Fail::new("no such value"));
     };

@@ -26,6 +26,7 @@ fn check_same_entry(rt: &impl Abort, left: Entry, right: Entry) -> Result<(), Fa
     let Some(value) = left.live() else {
         return Ok(());
     };
+    // No `ok_or_else`: of one that takes an Option of such a value the prover makes no proof.
     let Some(other) = right.live() else {
         return Err(Fail::new("not live"));
     };

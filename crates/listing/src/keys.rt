@@ -69,6 +69,7 @@ impl<'a, D: Directory> LiveKeys<'a, D> {
 fn bytes_of(last: &Option<Key>) -> &[u8]
     ensures { result.now ≡ bytes_of last.now }
 {
+    // Not `map_or`: the empty slice would have to be written as a part of an array.
     match last {
         None => &[],
         Some(key) => key.as_bytes(),

@@ -12,6 +12,7 @@ pub mod kind;
 mod rounds;
 
 /// The SHA-1 digest of `value`. That the definition is the standard's shows at its example, "abc".
+// For each kind its own: the length of an array can be no constant of a trait.
 pub fn sha1(value: &[u8]) -> [u8; 20]
     ensures value { result ≡ digested value.now }
     ensures example { DigestOfAbc }

@@ -72,6 +72,7 @@ fn next_name<R: Row>(row: &mut R, number: usize, last: &Name) -> Result<Option<N
     ensures { Asked (λ a. R.Row.nexts a number) row.old last.now result row.new }
 {
     let mut place = [0; 39];
+    // Not `and_then`: what is said of its closure does not reach the proof.
     match row.next(number, last.as_bytes(), &mut place)? {
         None => Ok(None),
         // No cloud answers a length above that of the place, so these bytes make a name.

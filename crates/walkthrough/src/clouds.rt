@@ -23,7 +23,9 @@ fn fixed(rt: &HostRuntime) -> anyhow::Result<FixedCloud> {
 
 // The script: the first call passes, the second meets silence, and so do some more.
 fn failing(rt: &HostRuntime) -> anyhow::Result<FaultyCloud<FixedCloud>> {
-    FaultyCloud::new(fixed(rt)?, &[0, 1, 1, 1]).ok().context(REFUSED)
+    FaultyCloud::new(fixed(rt)?, &[0, 1, 1, 1])
+        .ok()
+        .context(REFUSED)
 }
 
 /// Two clouds that do what they should, and one that fails after its first call.
@@ -32,7 +34,9 @@ pub(super) fn three(rt: &HostRuntime) -> anyhow::Result<Three> {
         left: Single { cloud: fixed(rt)? },
         right: Pair {
             left: Single { cloud: fixed(rt)? },
-            right: Single { cloud: failing(rt)? },
+            right: Single {
+                cloud: failing(rt)?,
+            },
         },
     })
 }

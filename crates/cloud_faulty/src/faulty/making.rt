@@ -14,6 +14,7 @@ impl<C: Cloud> FaultyCloud<C> {
     pub fn new(cloud: C, codes: &[u8]) -> Result<FaultyCloud<C>, Rejected<C>>
         ensures { Made codes.now cloud result }
     {
+        // Not `ok_or`: the cloud moves into the refusal only where there is one.
         let Some(script) = Script::read(codes) else {
             return Err(Rejected {
                 refusal: Refusal::UnsupportedStorage,

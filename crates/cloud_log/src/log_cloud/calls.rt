@@ -70,6 +70,7 @@ impl Cloud for LogCloud {
     }
 
     fn next(&mut self, above: &[u8], place: &mut [u8; 39]) -> Result<Option<usize>, Cause> {
+        // A closure for `map` would have to write to the place.
         let Some(i) = successor(&self.index, &AboveName { bytes: above }) else {
             return Ok(None);
         };

@@ -10,6 +10,7 @@ use naming::stamp::Stamp;
 use std::process::Abort;
 use std::test::Fail;
 
+// (Also in journal_cases: a crate of tests alone lends nothing to another.)
 fn at(container: u8, name: u8) -> Result<Address, Fail> {
     let key = Key::new(&[name]).ok_or_else(|| Fail::new("no key"))?;
     Ok(Address { container, key })

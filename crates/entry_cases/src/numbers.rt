@@ -79,7 +79,13 @@ fn refusals_are_told_with_what_they_carry(rt: HostRuntime) -> Result<(), Fail> {
     ] {
         assert_eq!(rt; format!(in rt.alloc(); "{refusal}")?.as_str(), text);
     }
-    assert_eq!(rt; format!(in rt.alloc(); "{FAULT}")?.as_str(), "cloud 2, cause 4");
-    assert_eq!(rt; format!(in rt.alloc(); "{}", Cause::Full)?.as_str(), "cause 1");
+    assert_eq!(rt;
+        format!(in rt.alloc(); "{FAULT}")?.as_str(),
+        "cloud 2, cause 4"
+    );
+    assert_eq!(rt;
+        format!(in rt.alloc(); "{}", Cause::Full)?.as_str(),
+        "cause 1"
+    );
     Ok(())
 }

@@ -7,7 +7,7 @@ ghost use Rattle.std.proofs.Common.{rules};
 
 use super::constants::{INITIAL, K};
 use super::rounds::combine;
-use digest::chain::Compression;
+use digest::rounds::Rounds;
 use digest::words::sums;
 
 /// A SHA-1 hash value under way.
@@ -16,7 +16,7 @@ pub struct Sha1 {
     words: [u32; 5],
 }
 
-impl Compression for Sha1 {
+impl Rounds for Sha1 {
     const WIDTH: usize = 20;
 
     const ROUNDS: usize = 80;

@@ -7,7 +7,7 @@ ghost use Rattle.std.proofs.Common.{rules};
 
 use super::constants::{INITIAL, K};
 use super::rounds::{big_sigma, small_sigma};
-use digest::chain::Compression;
+use digest::rounds::Rounds;
 use digest::words::{choose, majority, sums};
 
 /// A SHA-256 hash value under way.
@@ -16,7 +16,7 @@ pub struct Sha256 {
     words: [u32; 8],
 }
 
-impl Compression for Sha256 {
+impl Rounds for Sha256 {
     const WIDTH: usize = 32;
 
     const ROUNDS: usize = 64;

@@ -1,6 +1,5 @@
 use Rattle.std.proofs.Common.{◌≡◌, ◌*◌, ◌<◌, ◌++◌, [], length, take, drop, set, replicate, ap, ◌∙◌, arith, length-drop}
 use Rattle.std.proofs.Math.ListN.{drop_of_length-le}
-use Rattle.digest.specs.Rounds.{compression}
 use Rattle.digest.specs.Message.{be8, block}
 use Rattle.digest.proofs.Padding.{marked, bytes_of_length}
 use Rattle.digest.proofs.Chaining.{mark, ends_in_one, ends_in_two}
@@ -10,7 +9,7 @@ use Rattle.digest.proofs.chain.compress_end.Goals.{then-rest-ge-BEFORE_LENGTH, e
 pub returns : goal.returns
 returns g c =
     let k = g.C.Compression in
-    let compressed = compression k.round k.mixed k.ROUNDS k.size in
+    let compressed = k.compressed in
     let rest = c.args.rest.now in
     let n = c.args.len in
     let h = k.hash c.args.state.now in

@@ -1,5 +1,5 @@
 //! The rounds that compress a block, over a message schedule of sixteen words.
-ghost use Rattle.std.specs.Prelude.{◌≡◌, ℕ, ◌+◌, ◌-◌, ◌*◌, ◌%◌, ◌<◌, ◌≤◌, ◌⊎◌, List, length, slice_index};
+ghost use Rattle.std.specs.Prelude.{◌≡◌, ℕ, ◌+◌, ◌-◌, ◌*◌, ◌%◌, ◌≤◌, ◌⊎◌, List, length, slice_index};
 ghost use Rattle.digest.specs.Words.{sums};
 ghost use Rattle.digest.specs.Rounds.{turned, step, compression, ReadsSixteen};
 ghost use Rattle.digest.specs.Widths.{size_small};
@@ -37,12 +37,10 @@ pub trait Rounds: Copy {
 
     /// The word `t` of the schedule, from the sixteen words before it.
     fn later_word(window: &[u32; 16], t: usize) -> u32
-        requires { 16 ≤ t }
         ensures { result ≡ mixed (λ k. slice_index window.now ((t - k) % 16)) };
 
     /// The round `t` with the word `w`.
     fn round(self, t: usize, w: u32) -> Self
-        requires { t < ROUNDS }
         ensures { hash result ≡ round (hash self) t w };
 
     /// The sums of the words of both, place by place.
@@ -90,7 +88,6 @@ impl<C: Rounds> Compression for C {
 
 /// The round `t`, after which the window holds its word.
 fn turn<C: Rounds>(v: C, window: &mut [u32; 16], t: usize) -> C
-    requires { t < C.ROUNDS }
     ensures { (C.hash result, window.new) ≡ step C.round C.mixed (C.hash v, window.old) t }
 {
     if t >= 16 {

@@ -5,8 +5,8 @@ ghost use Rattle.sha1_digest.specs.Sha1.{round as rounded, mixed as mixed_words}
 ghost use Rattle.sha1_digest.specs.Schedule.{reads_sixteen};
 ghost use Rattle.std.proofs.Common.{rules};
 
-use super::constants::{INITIAL, K};
-use super::rounds::combine;
+use super::constants::INITIAL;
+use super::rounds::{combine, constant};
 use digest::rounds::Rounds;
 use digest::words::sums;
 
@@ -50,10 +50,10 @@ impl Rounds for Sha1 {
     }
 
     fn later_word(window: &[u32; 16], t: usize) -> u32 {
-        let words = window[(t - 3) % 16]
-            ^ window[(t - 8) % 16]
-            ^ window[(t - 14) % 16]
-            ^ window[(t - 16) % 16];
+        let words = window[t.saturating_sub(3) % 16]
+            ^ window[t.saturating_sub(8) % 16]
+            ^ window[t.saturating_sub(14) % 16]
+            ^ window[t.saturating_sub(16) % 16];
         words.rotate_left(1)
     }
 
@@ -63,7 +63,7 @@ impl Rounds for Sha1 {
             .rotate_left(5)
             .wrapping_add(combine(t, b, c, d))
             .wrapping_add(e)
-            .wrapping_add(K[t / 20])
+            .wrapping_add(constant(t))
             .wrapping_add(w);
         Sha1 {
             words: [x, a, b.rotate_left(30), c, d],

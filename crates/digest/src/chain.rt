@@ -5,7 +5,7 @@ ghost use Rattle.digest.specs.Words.{be4};
 ghost use Rattle.digest.specs.Rounds.{turned};
 ghost use Rattle.digest.specs.Message.{ending, PaddingRight, block, digest_of};
 
-use super::blocks::block_words;
+use super::blocks::{block_words, end_words, put_length};
 
 /// A hash value under way: the compression of one block after another into it is all that sets SHA-1 and SHA-256 apart.
 pub trait Compression: Sized {
@@ -41,15 +41,13 @@ fn compress_end<C: Compression>(state: &mut C, rest: &[u8], len: usize)
     requires { length rest.now ≡ len % 64 }
     ensures { C.hash state.new ≡ turned (λ h i. C.compressed h (block (ending rest.now len) i)) (C.hash state.old) ((length rest.now + 72) / 64) }
 {
-    let mut last = [0; 64];
-    last[..rest.len()].copy_from_slice(rest);
-    last[rest.len()] = 0x80;
+    let mut words = end_words(rest);
     if rest.len() >= BEFORE_LENGTH {
-        state.compress(&block_words(&last));
-        last = [0; 64];
+        state.compress(&words);
+        words = [0; 16];
     }
-    last[BEFORE_LENGTH..].copy_from_slice(&(len as u64).wrapping_mul(8).to_be_bytes());
-    state.compress(&block_words(&last));
+    put_length(&mut words, len);
+    state.compress(&words);
 }
 
 /// Writes the bytes of `words` over the first bytes of `out`; the others stay.

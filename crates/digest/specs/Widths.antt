@@ -1,5 +1,5 @@
 -- How long a digest is, and that it is made of bytes.
-use Rattle.std.proofs.Common.{◌≡◌, ℕ, zero, suc, ◌*◌, ◌/◌, ◌<◌, List, [], ◌∷◌, length, get_or, refl, ap, ◌∙◌, arith}
+use Rattle.std.proofs.Common.{◌≡◌, ℕ, zero, suc, ◌*◌, ◌/◌, ◌<◌, ◌≤◌, ◌⊎◌, inl, inr, List, [], ◌∷◌, length, get_or, refl, ap, ◌∙◌, arith}
 use Rattle.std.specs.List.{flat_map}
 use Rattle.std.proofs.lemmas.List.FromFn.{length-map-range_with_len}
 use Rattle.digest.specs.Words.{be4, plus, sums}
@@ -40,3 +40,7 @@ digest_of_small initial compressed m k = bytes_small (chained initial compressed
 -- a digest of rounds has four bytes for each word
 pub length_digest : (initial : List ℕ) (round : List ℕ → ℕ → ℕ → List ℕ) (mixed : (ℕ → ℕ) → ℕ) (n size : ℕ) → length initial ≡ size → (m : List ℕ) (width : ℕ) → 4 * size ≡ width → length (digest_of initial (compression round mixed n size) m) ≡ width
 length_digest initial round mixed n size first m width e = length_digest_of initial (compression round mixed n size) size first (length_compression round mixed n size) m ∙ e
+
+-- a digest of 20 or 32 bytes is made of at most eight words
+pub size_small : (size width : ℕ) → (width ≡ 20) ⊎ (width ≡ 32) → 4 * size ≡ width → size ≤ 8
+size_small size width either e = elim either [ inl short ↦ omega (arith, short, e) | inr long ↦ omega (arith, long, e) ]

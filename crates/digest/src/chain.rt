@@ -1,76 +1,35 @@
 //! The chaining of blocks, from the first hash value to the bytes of the digest.
-ghost use Rattle.std.specs.Prelude.{◌≡◌, ℕ, ◌+◌, ◌-◌, ◌*◌, ◌/◌, ◌%◌, ◌<◌, ◌≤◌, ◌⊎◌, List, ◌++◌, length, drop, slice_index};
+ghost use Rattle.std.specs.Prelude.{◌≡◌, ℕ, ◌+◌, ◌*◌, ◌/◌, ◌%◌, ◌≤◌, List, ◌++◌, length, drop};
 ghost use Rattle.std.specs.List.{flat_map};
-ghost use Rattle.digest.specs.Words.{be4, sums};
-ghost use Rattle.digest.specs.Rounds.{turned, compression, ReadsSixteen};
+ghost use Rattle.digest.specs.Words.{be4};
+ghost use Rattle.digest.specs.Rounds.{turned};
 ghost use Rattle.digest.specs.Message.{ending, PaddingRight, block, digest_of};
 
-use super::blocks::block_words;
-use super::rounds::compressed;
+use super::blocks::{block_words, end_words, put_length};
 
-/// A hash value under way, which is also the working variables of the rounds: its words, its rounds and its message
-/// schedule are all that sets SHA-1 and SHA-256 apart.
-// Its words are behind methods: over a `[u32; N]` the one implementation of `DigestKind` for all kinds could not name N.
-pub trait Compression: Copy {
-    /// How many bytes a digest has.
-    const WIDTH: usize;
-
-    /// How many rounds compress a block.
-    const ROUNDS: usize;
-
-    ghost WIDTH: { ℕ };
-
-    ghost ROUNDS: { ℕ };
-
-    /// The hash value as words, and how many it has.
+/// A hash value under way: the compression of one block after another into it is all that sets SHA-1 and SHA-256 apart.
+pub trait Compression: Sized {
+    /// The hash value as words, at most eight, and how many it has.
     ghost hash: { Self → List ℕ };
 
     ghost size: { ℕ };
 
-    /// The initial hash value, a round, and the mix of the message schedule.
+    /// The initial hash value, and the compression of a block of sixteen words into a hash value.
     ghost initial: { List ℕ };
 
-    ghost round: { List ℕ → ℕ → ℕ → List ℕ };
-
-    ghost mixed: { (ℕ → ℕ) → ℕ };
+    ghost compressed: { List ℕ → List ℕ → List ℕ };
 
     fn start() -> Self
         ensures { hash result ≡ initial };
 
-    /// The word `t` of the schedule, from the sixteen words before it.
-    fn later_word(window: &[u32; 16], t: usize) -> u32
-        requires { 16 ≤ t }
-        ensures { result ≡ mixed (λ k. slice_index window.now ((t - k) % 16)) };
-
-    /// The round `t` with the word `w`.
-    fn round(self, t: usize, w: u32) -> Self
-        requires { t < ROUNDS }
-        ensures { hash result ≡ round (hash self) t w };
-
-    /// The sums of the words of both, place by place.
-    fn plus(self, h: Self) -> Self
-        ensures { hash result ≡ sums size (hash self) (hash h) };
+    fn compress(&mut self, words: &[u32; 16])
+        ensures { hash self.new ≡ compressed (hash self.old) words.now };
 
     fn words(&self) -> &[u32]
         ensures value { result.now ≡ hash self.now }
         ensures len { length result.now ≡ size };
 
-    /// Compresses a block of sixteen words into the hash value.
-    final fn compress(&mut self, words: &[u32; 16])
-        ensures { hash self.new ≡ compression round mixed ROUNDS size (hash self.old) words.now }
-    {
-        *self = compressed(*self, words);
-    }
-
-    ghost widths: { (WIDTH ≡ 20) ⊎ (WIDTH ≡ 32) };
-
-    ghost whole: { 4 * size ≡ WIDTH };
-
-    ghost begins: { length initial ≡ size };
-
-    ghost counts: { (ROUNDS ≡ 64) ⊎ (ROUNDS ≡ 80) };
-
-    ghost reads: { ReadsSixteen mixed };
+    ghost small: { size ≤ 8 };
 }
 
 /// How many bytes of the last block come before the length.
@@ -80,17 +39,15 @@ const BEFORE_LENGTH: usize = 56;
 /// there: one block, or two where the length finds no place in the block in which the value ends.
 fn compress_end<C: Compression>(state: &mut C, rest: &[u8], len: usize)
     requires { length rest.now ≡ len % 64 }
-    ensures { C.hash state.new ≡ turned (λ h i. compression C.round C.mixed C.ROUNDS C.size h (block (ending rest.now len) i)) (C.hash state.old) ((length rest.now + 72) / 64) }
+    ensures { C.hash state.new ≡ turned (λ h i. C.compressed h (block (ending rest.now len) i)) (C.hash state.old) ((length rest.now + 72) / 64) }
 {
-    let mut last = [0; 64];
-    last[..rest.len()].copy_from_slice(rest);
-    last[rest.len()] = 0x80;
+    let mut words = end_words(rest);
     if rest.len() >= BEFORE_LENGTH {
-        state.compress(&block_words(&last));
-        last = [0; 64];
+        state.compress(&words);
+        words = [0; 16];
     }
-    last[BEFORE_LENGTH..].copy_from_slice(&(len as u64).wrapping_mul(8).to_be_bytes());
-    state.compress(&block_words(&last));
+    put_length(&mut words, len);
+    state.compress(&words);
 }
 
 /// Writes the bytes of `words` over the first bytes of `out`; the others stay.
@@ -105,8 +62,8 @@ fn write_words(words: &[u32], out: &mut [u8; 32])
 }
 
 /// Writes the digest of `value`, of any length, over the first bytes of `out`; the others stay.
-pub fn digest_into<C: Compression>(value: &[u8], out: &mut [u8; 32])
-    ensures value { out.new ≡ digest_of C.initial (compression C.round C.mixed C.ROUNDS C.size) value.now ++ drop (4 * C.size) out.old }
+pub fn digest_into<C: Compression + Drop>(value: &[u8], out: &mut [u8; 32])
+    ensures value { out.new ≡ digest_of C.initial C.compressed value.now ++ drop (4 * C.size) out.old }
     ensures padding { PaddingRight value.now }
 {
     let mut state = C::start();

@@ -4,7 +4,8 @@ ghost use Rattle.digest.specs.Rounds.{compression};
 ghost use Rattle.digest.specs.Message.{digest_of};
 ghost use Rattle.digest.specs.Widths.{length_digest, digest_of_small};
 
-use super::chain::{Compression, digest_into};
+use super::chain::digest_into;
+use super::rounds::Rounds;
 
 /// A digest function: a fixed function of the value's bytes, 20 or 32 bytes wide.
 pub trait DigestKind {
@@ -26,7 +27,7 @@ pub trait DigestKind {
     ghost bytes: { (value : List ℕ) (k : ℕ) → slice_index (digested value) k < 256 };
 }
 
-impl<C: Compression> DigestKind for C {
+impl<C: Rounds> DigestKind for C {
     const WIDTH: usize = C::WIDTH;
 
     ghost WIDTH = { C.WIDTH };

@@ -5,6 +5,6 @@
 mod blocks;
 pub mod chain;
 pub mod kind;
-mod rounds;
+pub mod rounds;
 pub mod value;
 pub mod words;

@@ -1,12 +1,93 @@
 //! The rounds that compress a block, over a message schedule of sixteen words.
-ghost use Rattle.std.specs.Prelude.{◌≡◌, ℕ, ◌+◌, ◌<◌, ◌≤◌};
-ghost use Rattle.digest.specs.Rounds.{turned, step, compression};
+ghost use Rattle.std.specs.Prelude.{◌≡◌, ℕ, ◌+◌, ◌-◌, ◌*◌, ◌%◌, ◌≤◌, ◌⊎◌, List, length, slice_index};
+ghost use Rattle.digest.specs.Words.{sums};
+ghost use Rattle.digest.specs.Rounds.{turned, step, compression, ReadsSixteen};
+ghost use Rattle.digest.specs.Widths.{size_small};
 
 use super::chain::Compression;
 
+/// A hash value under way, which is also the working variables of its rounds: its words, its rounds and its message
+/// schedule make its compression, and its digests.
+// Its words are behind methods: over a `[u32; N]` the one implementation of `DigestKind` for all kinds could not name N.
+pub trait Rounds: Copy {
+    /// How many bytes a digest has.
+    const WIDTH: usize;
+
+    /// How many rounds compress a block.
+    const ROUNDS: usize;
+
+    ghost WIDTH: { ℕ };
+
+    ghost ROUNDS: { ℕ };
+
+    /// The hash value as words, and how many it has.
+    ghost hash: { Self → List ℕ };
+
+    ghost size: { ℕ };
+
+    /// The initial hash value, a round, and the mix of the message schedule.
+    ghost initial: { List ℕ };
+
+    ghost round: { List ℕ → ℕ → ℕ → List ℕ };
+
+    ghost mixed: { (ℕ → ℕ) → ℕ };
+
+    fn start() -> Self
+        ensures { hash result ≡ initial };
+
+    /// The word `t` of the schedule, from the sixteen words before it.
+    fn later_word(window: &[u32; 16], t: usize) -> u32
+        ensures { result ≡ mixed (λ k. slice_index window.now ((t - k) % 16)) };
+
+    /// The round `t` with the word `w`.
+    fn round(self, t: usize, w: u32) -> Self
+        ensures { hash result ≡ round (hash self) t w };
+
+    /// The sums of the words of both, place by place.
+    fn plus(self, h: Self) -> Self
+        ensures { hash result ≡ sums size (hash self) (hash h) };
+
+    fn words(&self) -> &[u32]
+        ensures value { result.now ≡ hash self.now }
+        ensures len { length result.now ≡ size };
+
+    ghost widths: { (WIDTH ≡ 20) ⊎ (WIDTH ≡ 32) };
+
+    ghost whole: { 4 * size ≡ WIDTH };
+
+    ghost begins: { length initial ≡ size };
+
+    ghost counts: { (ROUNDS ≡ 64) ⊎ (ROUNDS ≡ 80) };
+
+    ghost reads: { ReadsSixteen mixed };
+}
+
+impl<C: Rounds> Compression for C {
+    ghost hash = { C.hash };
+
+    ghost size = { C.size };
+
+    ghost initial = { C.initial };
+
+    ghost compressed = { compression C.round C.mixed C.ROUNDS C.size };
+
+    ghost small = { size_small C.size C.WIDTH C.widths C.whole };
+
+    fn start() -> C {
+        C::start()
+    }
+
+    fn compress(&mut self, words: &[u32; 16]) {
+        *self = compressed(*self, words);
+    }
+
+    fn words(&self) -> &[u32] {
+        Rounds::words(self)
+    }
+}
+
 /// The round `t`, after which the window holds its word.
-fn turn<C: Compression>(v: C, window: &mut [u32; 16], t: usize) -> C
-    requires { t < C.ROUNDS }
+fn turn<C: Rounds>(v: C, window: &mut [u32; 16], t: usize) -> C
     ensures { (C.hash result, window.new) ≡ step C.round C.mixed (C.hash v, window.old) t }
 {
     if t >= 16 {
@@ -17,7 +98,7 @@ fn turn<C: Compression>(v: C, window: &mut [u32; 16], t: usize) -> C
 
 /// The sixteen rounds from `FROM` on, written out: each then has a constant number, which takes the tests of its number
 /// and the remainders away. A loop over them, even of just these sixteen, takes from 1.15 to 1.8 times as long.
-fn sixteen_rounds<C: Compression, const FROM: usize>(v: C, window: &mut [u32; 16]) -> C
+fn sixteen_rounds<C: Rounds, const FROM: usize>(v: C, window: &mut [u32; 16]) -> C
     requires { FROM + 16 ≤ C.ROUNDS }
     ensures { (C.hash result, window.new) ≡ turned (λ s t. step C.round C.mixed s (FROM + t)) (C.hash v, window.old) 16 }
 {
@@ -40,7 +121,7 @@ fn sixteen_rounds<C: Compression, const FROM: usize>(v: C, window: &mut [u32; 16
 }
 
 /// The hash value after a block, from the one before it.
-pub(crate) fn compressed<C: Compression>(h: C, words: &[u32; 16]) -> C
+fn compressed<C: Rounds>(h: C, words: &[u32; 16]) -> C
     ensures { C.hash result ≡ compression C.round C.mixed C.ROUNDS C.size (C.hash h) words.now }
 {
     let mut window = *words;

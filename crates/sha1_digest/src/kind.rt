@@ -5,9 +5,9 @@ ghost use Rattle.sha1_digest.specs.Sha1.{round as rounded, mixed as mixed_words}
 ghost use Rattle.sha1_digest.specs.Schedule.{reads_sixteen};
 ghost use Rattle.std.proofs.Common.{rules};
 
-use super::constants::{INITIAL, K};
-use super::rounds::combine;
-use digest::chain::Compression;
+use super::constants::INITIAL;
+use super::rounds::{combine, constant};
+use digest::rounds::Rounds;
 use digest::words::sums;
 
 /// A SHA-1 hash value under way.
@@ -16,7 +16,7 @@ pub struct Sha1 {
     words: [u32; 5],
 }
 
-impl Compression for Sha1 {
+impl Rounds for Sha1 {
     const WIDTH: usize = 20;
 
     const ROUNDS: usize = 80;
@@ -50,10 +50,10 @@ impl Compression for Sha1 {
     }
 
     fn later_word(window: &[u32; 16], t: usize) -> u32 {
-        let words = window[(t - 3) % 16]
-            ^ window[(t - 8) % 16]
-            ^ window[(t - 14) % 16]
-            ^ window[(t - 16) % 16];
+        let words = window[t.saturating_sub(3) % 16]
+            ^ window[t.saturating_sub(8) % 16]
+            ^ window[t.saturating_sub(14) % 16]
+            ^ window[t.saturating_sub(16) % 16];
         words.rotate_left(1)
     }
 
@@ -63,7 +63,7 @@ impl Compression for Sha1 {
             .rotate_left(5)
             .wrapping_add(combine(t, b, c, d))
             .wrapping_add(e)
-            .wrapping_add(K[t / 20])
+            .wrapping_add(constant(t))
             .wrapping_add(w);
         Sha1 {
             words: [x, a, b.rotate_left(30), c, d],

@@ -5,9 +5,9 @@ ghost use Rattle.sha256.specs.Sha256.{round as rounded, mixed as mixed_words};
 ghost use Rattle.sha256.specs.Schedule.{reads_sixteen};
 ghost use Rattle.std.proofs.Common.{rules};
 
-use super::constants::{INITIAL, K};
-use super::rounds::{big_sigma, small_sigma};
-use digest::chain::Compression;
+use super::constants::INITIAL;
+use super::rounds::{big_sigma, constant, small_sigma};
+use digest::rounds::Rounds;
 use digest::words::{choose, majority, sums};
 
 /// A SHA-256 hash value under way.
@@ -16,7 +16,7 @@ pub struct Sha256 {
     words: [u32; 8],
 }
 
-impl Compression for Sha256 {
+impl Rounds for Sha256 {
     const WIDTH: usize = 32;
 
     const ROUNDS: usize = 64;
@@ -50,10 +50,10 @@ impl Compression for Sha256 {
     }
 
     fn later_word(window: &[u32; 16], t: usize) -> u32 {
-        small_sigma::<17, 19, 10>(window[(t - 2) % 16])
-            .wrapping_add(window[(t - 7) % 16])
-            .wrapping_add(small_sigma::<7, 18, 3>(window[(t - 15) % 16]))
-            .wrapping_add(window[(t - 16) % 16])
+        small_sigma::<17, 19, 10>(window[t.saturating_sub(2) % 16])
+            .wrapping_add(window[t.saturating_sub(7) % 16])
+            .wrapping_add(small_sigma::<7, 18, 3>(window[t.saturating_sub(15) % 16]))
+            .wrapping_add(window[t.saturating_sub(16) % 16])
     }
 
     fn round(self, t: usize, w: u32) -> Sha256 {
@@ -61,7 +61,7 @@ impl Compression for Sha256 {
         let t1 = h
             .wrapping_add(big_sigma::<6, 11, 25>(e))
             .wrapping_add(choose(e, f, g))
-            .wrapping_add(K[t])
+            .wrapping_add(constant(t))
             .wrapping_add(w);
         let t2 = big_sigma::<2, 13, 22>(a).wrapping_add(majority(a, b, c));
         Sha256 {

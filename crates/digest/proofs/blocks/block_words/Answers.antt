@@ -11,7 +11,7 @@ loop-t-preserved c =
     let below : l.t < 16 = omega (arith, c.loop-t-test.true, c.as_chunks.ensures.front_len, c.told-bytes) in
     let within : l.t < length l.words = omega (arith, l.invariant.0, below) in
     let front = rw c.told-bytes at c.as_chunks.ensures.front in
-    let next : c.from_be_bytes.result ≡ word bytes l.t = c.from_be_bytes.ensures ∙ ap (λ chunks. word (get_or chunks l.t []) 0) front ∙ chunk_word bytes l.t below in
+    let next : c.from_be_bytes.result ≡ word bytes l.t = c.from_be_bytes.ensures ∙ ap (λ chunks. word (get_or chunks l.t []) 0) front ∙ chunk_word 16 bytes l.t below in
     (simp length-set l.invariant.0, rw next (fill_by_more (word bytes) l.words l.t 0 within l.invariant.1))
 
 pub returns : goal.returns

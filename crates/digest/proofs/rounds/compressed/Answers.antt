@@ -8,8 +8,8 @@ use Rattle.digest.proofs.rounds.compressed.Goals.{then-ROUNDS-eq80, else-ROUNDS-
 
 pub returns : goal.returns
 returns g c =
-    let k = g.C.Compression in
-    let law = g.met.C.Compression in
+    let k = g.C.Rounds in
+    let law = g.met.C.Rounds in
     let turn = step k.round k.mixed in
     let h = k.hash c.args.h in
     let start : List ℕ × List ℕ = (h, c.args.words.now) in

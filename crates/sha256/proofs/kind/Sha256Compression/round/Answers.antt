@@ -1,8 +1,0 @@
-use borrow.Author.Rules.{rules}
-use Rattle.sha256.specs.Constants.{constants}
-use Rattle.sha256.specs.Sha256.{round}
-use Rattle.sha256.proofs.kind.Sha256Compression.round.Goals as goal
-
-pub returns : goal.returns
-unfolding round constants
-returns c = search rules

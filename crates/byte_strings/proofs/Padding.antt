@@ -35,7 +35,6 @@ module _ (size n : ℕ) (xs bs out : List ℕ) (fits : n + length bs ≤ size) (
   pub written_length : length out ≡ size
   written_length = ap length split ∙ simp (length-append, length-take, length-drop) (omega arith)
 
--- There is as much room past the first n as past the bytes in use.
-pub room_past : (size n more : ℕ) (xs used : List ℕ) → n ≤ size → length xs ≡ size → take n xs ≡ used → length used + more ≤ size → n + more ≤ size
-room_past size n more xs used fits whole is room =
-    omega (arith, room, sym (ap length is) ∙ length_held size n xs fits whole)
+-- There are n bytes in use.
+pub length_used : (size n : ℕ) (xs used : List ℕ) → n ≤ size → length xs ≡ size → take n xs ≡ used → length used ≡ n
+length_used size n xs used fits whole is = sym (ap length is) ∙ length_held size n xs fits whole

@@ -42,6 +42,10 @@ byte_strings_are_ordered = record { preorder = at_most_preorder; antisymmetric =
 
 -- ---- single steps
 
+pub empty_at_most : (ys : List ℕ) → at_most [] ys ≡ true
+unfolding at_most
+empty_at_most ys = refl
+
 pub below_empty : (xs : List ℕ) → below xs [] ≡ false
 unfolding at_most
 below_empty xs = refl

@@ -1,6 +1,6 @@
 //! Byte strings of limited length, kept in place.
 
-ghost use Rattle.std.specs.Prelude.{◌≡◌, ◌+◌, ◌<◌, ◌≤◌, [], ◌++◌, length, take, drop, IfSome, IfNone, ◌==◌};
+ghost use Rattle.std.specs.Prelude.{◌≡◌, ◌+◌, ◌<◌, ◌≤◌, [], ◌++◌, length, take, drop, ◌↔◌, IsSome, IfSome, IfNone, ◌==◌};
 ghost use Rattle.std.specs.Ordering.{nat_cmp, as_partial_cmp};
 ghost use Rattle.std.specs.Cmp.{partial_order_from_own_ties};
 ghost use Rattle.std.specs.Cmp.Lexicographic.{pointwise, slice_cmp};
@@ -99,21 +99,23 @@ impl<const N: usize> FixedBytes<N> {
         ensures found { IfSome result (λ s. (s ≡ bytes.now) × (length bytes.now ≤ N)) }
         ensures none { IfNone result (N < length bytes.now) }
     {
-        if bytes.len() > N {
-            return None;
-        }
         let mut all = FixedBytes::new();
-        all.append(bytes);
+        all.append(bytes)?;
         Some(all)
     }
 
-    /// Appends the bytes, for which there is room.
-    pub fn append(&mut self, bytes: &[u8])
-        requires { length self.old + length bytes.now ≤ N }
-        ensures { self.new ≡ self.old ++ bytes.now }
+    /// Appends the bytes where there is room for them; otherwise nothing changes.
+    pub fn append(&mut self, bytes: &[u8]) -> Option<()>
+        ensures room { IsSome result ↔ (length self.old + length bytes.now ≤ N) }
+        ensures appended { IfSome result (λ _. self.new ≡ self.old ++ bytes.now) }
+        ensures unchanged { IfNone result (self.new ≡ self.old) }
     {
+        if bytes.len() > N - self.len {
+            return None;
+        }
         overwrite(&mut self.bytes, self.len, bytes);
         self.len += bytes.len();
+        Some(())
     }
 
     /// The bytes.

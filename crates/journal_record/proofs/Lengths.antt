@@ -17,22 +17,22 @@ length_container x = by (eqb x 0)
     by true = omega arith
     by false = omega arith
 
-length_size : (x : ℕ) → length (size_field x) ≤ 2
+pub length_size : (x : ℕ) → length (size_field x) ≤ 2
 length_size x = by (eqb x 0)
   where
     by : (b : Bool) → length (cond b [] (two_bytes x)) ≤ 2
     by true = omega arith
     by false = omega arith
 
-width_most : (d : List ℕ) → is_digest d ≡ true → length d ≤ 32
+pub width_most : (d : List ℕ) → is_digest d ≡ true → length d ≤ 32
 width_most d h =
     elim (or_cases (eqb (length d) 20) (eqb (length d) 32) h) [ inl e ↦ omega (arith, eqb-true (length d) 20 e) | inr e ↦ omega (arith, eqb-true (length d) 32 e) ]
 
-length_digest : (d : List ℕ) → digest_fits d ≡ true → length d ≤ 32
+pub length_digest : (d : List ℕ) → digest_fits d ≡ true → length d ≤ 32
 unfolding digest_fits
 length_digest d h = width_most d (and_parts (is_digest d) (all_bytes d) h).0
 
-length_live : (o : Option LiveValue) → IfSome o (λ l. valid_live l ≡ true) → length (live_fields o) ≤ 35
+pub length_live : (o : Option LiveValue) → IfSome o (λ l. valid_live l ≡ true) → length (live_fields o) ≤ 35
 length_live None v = omega arith
 length_live (Some l) v =
     let d = length_digest l.digest (and_parts _ (digest_fits l.digest) v).1 in

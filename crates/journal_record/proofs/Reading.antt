@@ -10,7 +10,7 @@ parse_short (a ∷ []) h = refl
 parse_short (a ∷ b ∷ xs) h = absurd (omega arith)
 
 -- the map, the key's length, and the fields
-parse_front : (xs front fields : List ℕ) → front ≡ take 2 xs → fields ≡ drop 2 xs → length fields + 2 ≡ length xs
+pub parse_front : (xs front fields : List ℕ) → front ≡ take 2 xs → fields ≡ drop 2 xs → length fields + 2 ≡ length xs
     → parse xs ≡ then (take_fields (get_or front 0 0) (get_or front 1 0) fields) (λ r rest. guard (in_limits r) (Some (r, rest)))
 unfolding parse
 parse_front [] front fields f d h = absurd (omega arith)

@@ -53,10 +53,12 @@ impl Record {
     {
         let mut buffer = FixedBytes::new();
         let stamp = self.entry.stamp();
-        buffer.append(&[self.map(), self.at.key.len() as u8]);
-        buffer.append(self.at.key.as_bytes());
-        buffer.append(&stamp.sequence().to_be_bytes());
-        buffer.append(&[stamp.writer()]);
+        buffer
+            .append(&[self.map(), self.at.key.len() as u8])
+            .unwrap();
+        buffer.append(self.at.key.as_bytes()).unwrap();
+        buffer.append(&stamp.sequence().to_be_bytes()).unwrap();
+        buffer.append(&[stamp.writer()]).unwrap();
         buffer
     }
 
@@ -78,7 +80,7 @@ fn append_container(buffer: &mut Encoded, container: u8)
     ensures { buffer.new ≡ buffer.old ++ container_field container }
 {
     if container != 0 {
-        buffer.append(&[container]);
+        buffer.append(&[container]).unwrap();
     }
 }
 
@@ -88,9 +90,9 @@ fn append_live(buffer: &mut Encoded, live: Option<Live>)
     ensures { buffer.new ≡ buffer.old ++ live_fields (option_map live_value live) }
 {
     if let Some(live) = live {
-        buffer.append(&[live.clouds()]);
+        buffer.append(&[live.clouds()]).unwrap();
         append_size(buffer, live.size() as u16);
-        buffer.append(live.digest().as_bytes());
+        buffer.append(live.digest().as_bytes()).unwrap();
     }
 }
 
@@ -100,7 +102,7 @@ fn append_size(buffer: &mut Encoded, size: u16)
     ensures { buffer.new ≡ buffer.old ++ size_field size }
 {
     if size != 0 {
-        buffer.append(&size.to_be_bytes());
+        buffer.append(&size.to_be_bytes()).unwrap();
     }
 }
 

@@ -18,8 +18,22 @@ fn there_is_room_for_as_many_bytes_as_it_says(rt: HostRuntime) {
 #[test]
 fn bytes_are_appended_after_those_that_are_there(rt: HostRuntime) {
     let mut kept: FixedBytes<5> = FixedBytes::new();
-    kept.append(b"ab");
-    kept.append(b"");
-    kept.append(b"cde");
+    assert!(rt; kept.append(b"ab").is_some());
+    assert!(rt; kept.append(b"").is_some());
+    assert!(rt; kept.append(b"cde").is_some());
+    assert_eq!(rt; kept.as_slice(), b"abcde".as_slice());
+}
+
+#[test]
+fn where_there_is_no_room_the_string_stays_as_it_was(rt: HostRuntime) {
+    let mut kept: FixedBytes<5> = FixedBytes::new();
+    assert!(rt; kept.append(b"abcdef").is_none());
+    assert_eq!(rt; kept.len(), 0);
+    assert!(rt; kept.append(b"ab").is_some());
+    assert!(rt; kept.append(b"cdef").is_none());
+    assert_eq!(rt; kept.as_slice(), b"ab".as_slice());
+    assert!(rt; kept.append(b"cde").is_some());
+    assert!(rt; kept.append(b"f").is_none());
+    assert!(rt; kept.append(b"").is_some());
     assert_eq!(rt; kept.as_slice(), b"abcde".as_slice());
 }

@@ -6,7 +6,7 @@ use naming::name::Name;
 use naming::stamp::Stamp;
 use std::test::Fail;
 
-pub(crate) fn key(bytes: &[u8]) -> Result<Key, Fail> {
+pub fn key(bytes: &[u8]) -> Result<Key, Fail> {
     Key::new(bytes).ok_or_else(|| Fail::new("no key"))
 }
 
@@ -17,10 +17,10 @@ pub(crate) fn address(container: u8, bytes: &[u8]) -> Result<Address, Fail> {
     })
 }
 
-pub(crate) fn stamp(sequence: u32, writer: u8) -> Result<Stamp, Fail> {
+pub fn stamp(sequence: u32, writer: u8) -> Result<Stamp, Fail> {
     Stamp::new(sequence, writer).ok_or_else(|| Fail::new("no such writer"))
 }
 
-pub(crate) fn name(bytes: &[u8]) -> Result<Name, Fail> {
+pub fn name(bytes: &[u8]) -> Result<Name, Fail> {
     Name::from_bytes(bytes).ok_or_else(|| Fail::new("too long for a name"))
 }

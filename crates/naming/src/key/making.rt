@@ -3,7 +3,7 @@
 ghost use Rattle.std.specs.Prelude.{◌≡◌, true, false, MatchOption};
 ghost use Rattle.naming.specs.Text.{printable, valid_key, visible};
 
-use super::Key;
+use super::{Key, LONGEST};
 use byte_strings::fixed::FixedBytes;
 
 impl Key {
@@ -11,10 +11,10 @@ impl Key {
     pub fn new(bytes: &[u8]) -> Option<Key>
         ensures { MatchOption result (valid_key bytes.now ≡ false) (λ k. (valid_key bytes.now ≡ true) × (k.bytes ≡ bytes.now)) }
     {
-        let text = FixedBytes::from_slice(bytes)?;
-        if bytes.is_empty() || !is_printable(bytes) {
+        if bytes.is_empty() || bytes.len() > LONGEST || !is_printable(bytes) {
             return None;
         }
+        let text = FixedBytes::from_slice(bytes)?;
         Some(Key { bytes: text })
     }
 }

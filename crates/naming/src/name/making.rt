@@ -19,10 +19,10 @@ impl Name {
         ensures ordered { NamesKeepTheOrderOfStamps }
     {
         let mut bytes = FixedBytes::new();
-        bytes.append(&[at.container]);
-        bytes.append(at.key.as_bytes());
-        bytes.append(&[SEPARATOR]);
-        bytes.append(&stamp_bytes(stamp));
+        bytes.append(&[at.container]).unwrap();
+        bytes.append(at.key.as_bytes()).unwrap();
+        bytes.append(&[SEPARATOR]).unwrap();
+        bytes.append(&stamp_bytes(stamp)).unwrap();
         Name { bytes }
     }
 

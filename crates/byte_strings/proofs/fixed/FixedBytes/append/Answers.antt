@@ -1,12 +1,9 @@
-use Rattle.std.proofs.Common.{◌++◌, length, ap, ◌∙◌, arith}
-use Rattle.byte_strings.proofs.Padding.{room_past, written_front, written_rest, written_length}
+use Rattle.std.proofs.Common.{◌+◌, ◌≤◌, ◌++◌, length, refl, ap, ◌∙◌, arith}
+use Rattle.byte_strings.proofs.Padding.{length_used, written_front, written_rest, written_length}
 use Rattle.byte_strings.proofs.fixed.FixedBytes.append.Goals as goal
 
 pub overwrite-requires : goal.overwrite-requires
-overwrite-requires g c =
-    let s = c.self.inside in
-    let h = c.self.invariant in
-    omega (arith, room_past g.row.N s.len (length c.args.bytes.now) s.bytes _ h.0 h.2 c.self.view_is c.requires, h.2)
+overwrite-requires g c = let h = c.self.invariant in omega (arith, h.0, h.2)
 
 pub invariant_of-self : goal.invariant_of-self
 invariant_of-self g c =
@@ -14,7 +11,7 @@ invariant_of-self g c =
     let bs = c.args.bytes.now in
     let out = c.overwrite.new.buffer in
     let h = c.self.invariant in
-    let fits = room_past g.row.N s.len (length bs) s.bytes _ h.0 h.2 c.self.view_is c.requires in (
+    let fits : s.len + length bs ≤ g.row.N = omega (arith, h.0) in (
       fits,
       written_rest g.row.N s.len s.bytes bs out fits h.2 h.1 c.overwrite.ensures,
       written_length g.row.N s.len s.bytes bs out fits h.2 h.1 c.overwrite.ensures,
@@ -25,5 +22,11 @@ returns g c =
     let s = c.self.inside in
     let bs = c.args.bytes.now in
     let h = c.self.invariant in
-    let fits = room_past g.row.N s.len (length bs) s.bytes _ h.0 h.2 c.self.view_is c.requires in
-    written_front g.row.N s.len s.bytes bs c.overwrite.new.buffer fits h.2 h.1 c.overwrite.ensures ∙ ap (λ xs. xs ++ bs) c.self.view_is
+    let fits : s.len + length bs ≤ g.row.N = omega (arith, h.0) in
+    let front = written_front g.row.N s.len s.bytes bs c.overwrite.new.buffer fits h.2 h.1 c.overwrite.ensures in
+    let held = length_used g.row.N s.len s.bytes _ h.0 h.2 c.self.view_is in
+    record {
+      room = (λ _. omega (arith, held), λ _. refl);
+      appended = front ∙ ap (λ xs. xs ++ bs) c.self.view_is;
+      unchanged = tt;
+    }

@@ -2,17 +2,14 @@ use Rattle.std.proofs.Common.{arith}
 use Rattle.std.proofs.lemmas.Bool.Decides.{nat_tests}
 use Rattle.naming.specs.Text.{valid_key}
 use Rattle.naming.proofs.key.Key.new.Goals as goal
-use Rattle.naming.proofs.key.Key.new.Goals.{then-is_empty-via-then-is_empty, then-is_empty-via-else-is_empty+then-not-is_printable}
-
-pub returns-in_err-text : goal.returns-in_err-text
-unfolding valid_key
-returns-in_err-text c = rw c.from_residual.ensures (let long = c.in_err-text.ensures.none in grind (arith, nat_tests))
+use Rattle.naming.proofs.key.Key.new.Goals.{then-is_empty-via-then-is_empty, then-is_empty-via-else-is_empty+then-bytes-gt-LONGEST, then-is_empty-via-else-is_empty+else-bytes-gt-LONGEST+then-not-is_printable}
 
 pub returns-then-is_empty : goal.returns-then-is_empty
 unfolding valid_key
 returns-then-is_empty c = elim c.then-is_empty.branch [
   | then-is_empty-via-then-is_empty w ↦ let empty = w.if-is_empty.ensures in grind (arith, nat_tests)
-  | then-is_empty-via-else-is_empty+then-not-is_printable w ↦ let other = w.if-not-is_printable.ensures in grind (arith, nat_tests)
+  | then-is_empty-via-else-is_empty+then-bytes-gt-LONGEST w ↦ grind (arith, nat_tests)
+  | then-is_empty-via-else-is_empty+else-bytes-gt-LONGEST+then-not-is_printable w ↦ let other = w.if-not-is_printable.ensures in grind (arith, nat_tests)
 ]
 
 pub invariant_of-result : goal.invariant_of-result

@@ -68,13 +68,15 @@ impl CloudSet {
 
     /// The set with the cloud in it. A number that no cloud can have adds nothing.
     pub fn with(&self, cloud: usize) -> CloudSet
-        ensures { result ≡ (if nat_lt cloud 7 then with_cloud self.now cloud else self.now) }
+        ensures value { result ≡ (if nat_lt cloud 7 then with_cloud self.now cloud else self.now) }
+        ensures few { result ≤ 127 }
     {
+        let bits = self.bits();
         if cloud >= MOST_CLOUDS {
             return *self;
         }
         CloudSet {
-            mask: self.bits() | 1 << cloud,
+            mask: bits | 1 << cloud,
         }
     }
 

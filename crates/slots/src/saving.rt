@@ -1,6 +1,7 @@
 //! Saves that are under way.
 
 ghost use Rattle.std.specs.Prelude.{◌≡◌, ◌≤◌, true};
+ghost use Rattle.naming.specs.Stamps.{ValidStamp};
 ghost use Rattle.digest.specs.Value.{digest_bytes};
 ghost use Rattle.entry.specs.Bytes.{digest_fits};
 
@@ -20,8 +21,10 @@ pub struct Saving {
     size: u16,
     digest: Digest,
     stored: CloudSet,
+    ghost known: { ValidStamp stamp },
     ghost numbered: { 1 ≤ stamp.sequence },
     ghost written: { 1 ≤ stamp.writer },
     ghost sized: { size ≤ 1024 },
     ghost wide: { digest_fits (digest_bytes digest) ≡ true },
+    ghost few: { stored ≤ 127 },
 }

@@ -1,6 +1,6 @@
 //! Making a party, and reading it.
 
-ghost use Rattle.std.specs.Prelude.{◌≡◌, ◌-◌, ◌<◌, not};
+ghost use Rattle.std.specs.Prelude.{◌≡◌, ◌-◌, ◌<◌, ◌≤◌, not};
 ghost use Rattle.refusal.specs.declared.Refusal.TheVariants.{UnknownParty};
 ghost use Rattle.protocol.specs.State.{valid_party};
 ghost use Rattle.protocol.specs.Steps.{or_refused};
@@ -26,8 +26,10 @@ impl TryFrom<u8> for Party {
 }
 
 impl Party {
+    /// The party's number, 1 to 16.
     pub fn number(&self) -> u8
-        ensures { result ≡ self.now }
+        ensures value { result ≡ self.now }
+        ensures within { (1 ≤ self.now) × (self.now ≤ 16) }
     {
         self.number
     }

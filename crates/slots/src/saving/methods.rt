@@ -58,7 +58,7 @@ impl Saving {
     }
 
     /// Whether this is the value that was begun. Its digest is computed only where the size is right.
-    pub(crate) fn is_of<K: DigestKind>(&self, value: &[u8]) -> bool
+    pub fn is_of<K: DigestKind>(&self, value: &[u8]) -> bool
         ensures { result ≡ is_begun_value (digesting K.digested) value.now (saving_value self.now) }
     {
         value.len() == self.size as usize && self.digest.matches::<K>(value)
@@ -74,14 +74,14 @@ impl Saving {
     }
 
     /// Whether the cloud has acknowledged the value, or more clouds have than may be unsound.
-    pub(crate) fn is_done_at(&self, cloud: usize, limits: &Limits) -> bool
+    pub fn is_done_at(&self, cloud: usize, limits: &Limits) -> bool
         ensures { result ≡ (lists (saving_value self.now).stored cloud || nat_lt limits.now.faults (count (saving_value self.now).stored)) }
     {
         self.stored.has(cloud) || self.count() > limits.faults()
     }
 
     /// Whether no more clouds have acknowledged the value than may be unsound.
-    pub(crate) fn is_short(&self, limits: &Limits) -> bool
+    pub fn is_short(&self, limits: &Limits) -> bool
         ensures { result ≡ nat_le (count (saving_value self.now).stored) limits.now.faults }
     {
         self.count() <= limits.faults()

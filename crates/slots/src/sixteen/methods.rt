@@ -2,10 +2,11 @@
 
 ghost use Rattle.std.specs.Prelude.{◌≡◌, ◌-◌, not, replicate, slice_set};
 ghost use Rattle.refusal.specs.declared.Refusal.TheVariants.{SlotBusy, SlotNotReady};
-ghost use Rattle.protocol.specs.Slots.{idle, is_idle, is_saving, is_fetching, is_sweeping};
+ghost use Rattle.protocol.specs.Slots.{idle, is_idle, is_saving, is_fetching, is_sweeping, of_saving};
 ghost use Rattle.protocol.specs.State.{slot_at};
+ghost use Rattle.protocol.specs.Grounds.{is_begun_value};
 ghost use Rattle.protocol.specs.Steps.{or_refused, saving_of, fetching_of, sweeping_of};
-ghost use Rattle.slots.specs.Values.{answered, when, setting_of, doing_value, saving_value, fetching_value, sweeping_value};
+ghost use Rattle.slots.specs.Values.{answered, when, setting_of, doing_value, saving_value, fetching_value, sweeping_value, digesting};
 ghost use Rattle.slots.specs.Grounds.{store_ground, commit_ground, try_ground};
 
 use super::Slots;
@@ -57,6 +58,16 @@ impl Slots {
             Err(Refusal::SlotNotReady)
         } else {
             Ok(())
+        }
+    }
+
+    /// Whether this is the value of the party's save.
+    pub fn is_begun<K: DigestKind>(&self, party: Party, value: &[u8]) -> bool
+        ensures { result ≡ of_saving (slot_at self.now party) (is_begun_value (digesting K.digested) value.now) }
+    {
+        match self.doing(party) {
+            Doing::Saving(saving) => saving.is_of::<K>(value),
+            _ => false,
         }
     }
 

@@ -1,6 +1,6 @@
 //! The faults that calls use up, one each.
 
-ghost use Rattle.std.specs.Prelude.{◌≡◌, length};
+ghost use Rattle.std.specs.Prelude.{◌≡◌, ◌≤◌, length};
 ghost use Rattle.cloud_faulty.specs.Faults.{first, script_of, UsedUp};
 
 use crate::fault::Fault;
@@ -9,19 +9,23 @@ use std::marker::Model;
 
 const MOST_CODES: usize = 32;
 
-// The faults that are left, in the order of the calls.
+// The faults in the order of the calls; the first `used` of them are used up.
 #[derive(Drop)]
 pub(crate) struct Script {
-    left: ArrayVec<Fault, MOST_CODES>,
+    faults: ArrayVec<Fault, MOST_CODES>,
+    used: usize,
 }
 
 impl Model for Script {
-    ghost use Rattle.std.specs.Prelude.{List};
+    ghost use Rattle.std.specs.Prelude.{◌≤◌, List, length, drop};
     ghost use Rattle.cloud_faulty.specs.declared.fault.Fault.{Fault};
 
     ghost Value = { List Fault };
 
-    ghost view = { λ s. s.left.items };
+    // The faults that are left.
+    ghost view = { λ s. drop s.used s.faults.items };
+
+    ghost invariant = { λ s. s.used ≤ length s.faults.items };
 }
 
 impl Script {
@@ -32,11 +36,11 @@ impl Script {
         if codes.len() > MOST_CODES {
             return None;
         }
-        let mut left = ArrayVec::new();
+        let mut faults = ArrayVec::new();
         for code in codes {
-            left.push(Fault::try_from(*code).ok()?);
+            faults.push(Fault::try_from(*code).ok()?);
         }
-        Some(Script { left })
+        Some(Script { faults, used: 0 })
     }
 
     // Uses up the next fault. After the last each call passes.
@@ -44,13 +48,18 @@ impl Script {
         ensures fault { result ≡ first self.old }
         ensures after { UsedUp self.old self.new }
     {
-        self.left.pop_at(0).unwrap_or_default()
+        let Some(&fault) = self.faults.get(self.used) else {
+            return Fault::default();
+        };
+        self.used += 1;
+        fault
     }
 
-    // How many faults are left.
+    // How many faults are left, at most 32.
     pub(crate) fn left(&self) -> usize
-        ensures { result ≡ length self.now }
+        ensures value { result ≡ length self.now }
+        ensures few { result ≤ 32 }
     {
-        self.left.len()
+        self.faults.len() - self.used
     }
 }

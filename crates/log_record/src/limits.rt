@@ -1,6 +1,6 @@
 //! How long records can be.
 
-use cloud::limits::{LONGEST_NAME, LONGEST_VALUE};
+pub use cloud::limits::{LONGEST_NAME, LONGEST_VALUE};
 
 /// The bytes of a record that are lengths: one for the name's, two for the value's.
 pub const LENGTHS: usize = 3;

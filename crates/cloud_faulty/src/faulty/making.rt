@@ -1,6 +1,6 @@
 //! Making a faulty cloud.
 
-ghost use Rattle.std.specs.Prelude.{◌≡◌, length};
+ghost use Rattle.std.specs.Prelude.{◌≡◌, ◌≤◌, length};
 ghost use Rattle.cloud_faulty.specs.Making.{Made};
 
 use crate::faulty::FaultyCloud;
@@ -27,9 +27,10 @@ impl<C: Cloud> FaultyCloud<C> {
         })
     }
 
-    /// How many codes are left.
+    /// How many codes are left, at most 32.
     pub fn left(&self) -> usize
-        ensures { result ≡ length self.now.script }
+        ensures value { result ≡ length self.now.script }
+        ensures few { result ≤ 32 }
     {
         self.script.left()
     }

@@ -5,4 +5,4 @@ use Rattle.cloud_faulty.proofs.Codes.{Read}
 use Rattle.cloud_faulty.proofs.script.Script.read.Given as goal
 
 abbrev pub invariant-loop-code : goal.invariant-loop-code
-invariant-loop-code l = record { count : array_vec_len l.left ≡ l.code-index; read : Read l.codes l.code-index l.left.items }
+invariant-loop-code l = record { count : array_vec_len l.faults ≡ l.code-index; read : Read l.codes l.code-index l.faults.items }

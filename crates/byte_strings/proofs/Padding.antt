@@ -38,3 +38,7 @@ module _ (size n : ℕ) (xs bs out : List ℕ) (fits : n + length bs ≤ size) (
 -- There are n bytes in use.
 pub length_used : (size n : ℕ) (xs used : List ℕ) → n ≤ size → length xs ≡ size → take n xs ≡ used → length used ≡ n
 length_used size n xs used fits whole is = sym (ap length is) ∙ length_held size n xs fits whole
+
+-- There is as much room past the first n as past the bytes in use.
+pub room_past : (size n more : ℕ) (xs used : List ℕ) → n ≤ size → length xs ≡ size → take n xs ≡ used → length used + more ≤ size → n + more ≤ size
+room_past size n more xs used fits whole is room = omega (arith, room, length_used size n xs used fits whole is)

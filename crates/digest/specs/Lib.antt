@@ -3,3 +3,4 @@ pub mod Rounds
 pub mod Message
 pub mod Value
 pub mod Widths
+pub mod InRange

@@ -4,6 +4,7 @@
 
 mod blocks;
 pub mod chain;
+pub mod in_range;
 pub mod kind;
 pub mod rounds;
 pub mod value;

@@ -2,5 +2,6 @@
 #![tactic(auto)]
 
 mod pattern;
+mod sha0;
 #[cfg(test)]
 mod tests;

@@ -1,5 +1,8 @@
-//! Each expected digest is the standard's, or what `sha1sum` and `sha256sum` print.
+//! Each expected digest is the standard's, or what `sha1sum` and `sha256sum` print; that of nothing by SHA-0 is what a
+//! sketch of that standard in Python gave.
 use super::pattern::pattern;
+use super::sha0::Sha0;
+use digest::rounds::Rounds;
 use digest::value::Digest;
 use hexadecimal::is_encoded;
 use sha1_digest::kind::Sha1;
@@ -168,4 +171,44 @@ fn matching(rt: HostRuntime) {
     assert!(rt; !long.matches::<Sha256>(b"ab"));
     assert!(rt; !short.matches::<Sha256>(b"abc"));
     assert!(rt; !long.matches::<Sha1>(b"abc"));
+}
+
+#[test]
+fn rounds_in_range_alone_make_a_digest(rt: HostRuntime) {
+    let none = Digest::of::<Sha0>(b"");
+    assert!(rt; is_encoded(none.as_bytes(), b"f96cea198ad1dd5617ac084a3d92c6107708c0ef"));
+    let short = Digest::of::<Sha0>(b"abc");
+    assert!(rt;
+        is_encoded(
+            short.as_bytes(),
+            b"0164b8a914cd2a5e74c4f7ff082c4d97f1edf880"
+        )
+    );
+    let long = Digest::of::<Sha0>(b"abcdbcdecdefdefgefghfghighijhijkijkljklmklmnlmnomnopnopq");
+    assert!(rt; is_encoded(long.as_bytes(), b"d2516ee1acfa5baf33dfc1c471e438449ef134c8"));
+    assert!(rt; short.matches::<Sha0>(b"abc"));
+    assert!(rt; !short.matches::<Sha1>(b"abc"));
+}
+
+#[test]
+fn rounds_in_range_alone_are_there_for_every_number(rt: HostRuntime) {
+    let window = [
+        0x61626380, 1, 2, 0xffffffff, 4, 0x50000000, 6, 7, 8, 0x90000009, 10, 11, 12, 13,
+        0x80000000, 24,
+    ];
+    for t in 0..100 {
+        let word = <Sha0 as Rounds>::later_word(&window, t);
+        assert_eq!(rt;
+            <Sha1 as Rounds>::later_word(&window, t),
+            word.rotate_left(1)
+        );
+        let start = <Sha0 as Rounds>::start();
+        let same = <Sha1 as Rounds>::start();
+        let next = Rounds::round(start, t, word);
+        if t < 80 {
+            assert!(rt; Rounds::words(&next) == Rounds::words(&Rounds::round(same, t, word)));
+        } else {
+            assert!(rt; Rounds::words(&next) == Rounds::words(&start));
+        }
+    }
 }

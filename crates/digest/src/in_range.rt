@@ -7,8 +7,9 @@ ghost use Rattle.digest.specs.InRange.{in_range};
 use super::rounds::Rounds;
 
 /// A hash value under way as `Rounds` has it, but that a round need only be there for the numbers below `ROUNDS`, and a
-/// later word for those from 16 on: the compression of a block uses no others. `Rounds` follows, and with it the
-/// compression and the digest.
+/// later word for those from 16 on: the compression of a block uses no others. `Rounds` follows, in which the hash value
+/// stays past the last round; and with it the compression and the digest, which are those of the rounds given here by the
+/// laws `compression_in_range` and `digest_in_range`.
 pub trait RoundsInRange: Copy {
     /// How many bytes a digest has.
     const WIDTH: usize;

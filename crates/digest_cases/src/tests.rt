@@ -1,5 +1,5 @@
-//! Each expected digest is the standard's, or what `sha1sum` and `sha256sum` print; that of nothing by SHA-0 is what a
-//! sketch of that standard in Python gave.
+//! Each expected digest is the standard's, or what `sha1sum` and `sha256sum` print; those by SHA-0 are what a sketch of it
+//! in Python gave, whose SHA-1 agrees with `hashlib`.
 use super::pattern::pattern;
 use super::sha0::Sha0;
 use digest::rounds::Rounds;
